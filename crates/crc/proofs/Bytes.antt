@@ -1,0 +1,66 @@
+-- The bytes of a number: cut in two, joined, and into the register.
+-- Assumes nothing.
+use mathlib.Core.Path.{_≡_, refl, sym, ap, ap₂, _∙_}
+use mathlib.Core.List.{List, [], _∷_, _++_, append-assoc, append-nil}
+use Prim.Native.Nat.{ℕ, zero, suc, _+_, _*_, _/_, _%_, _^_, _<_, _≤_}
+use native.Mathlib.Nat.{add-comm, zero-add, suc-add}
+use native.Mathlib.Omega.{arith}
+use lib.Bits.{bitOr, or-shifted, bitXor, xor-shr, xor-mod}
+use lib.ListN.{length, getD, take, drop, take-append-drop}
+use lib.Seq.{drop-cons, drop-drop}
+use lib.Pow.{shl-exact, shr-shr, field, mod-mod-pow, high, low}
+use Rattle.crc.specs.Crc.{crcFrom}
+use Rattle.crc.specs.Fold.{bytesOf}
+use Rattle.crc.proofs.Register.{byteIn, byteIn-xor, from-none, from-one, from-append}
+
+-- a number below 256 is its one byte
+pub one-byte : (b : ℕ) → b < 256 → bytesOf 1 b ≡ b ∷ []
+unfolding bytesOf
+one-byte b h = let e : b % 256 ≡ b = omega arith in rw e
+
+-- the bytes above the lowest n, and then those
+pub cut : (n m w : ℕ) → bytesOf (n + m) w ≡ bytesOf m (w / 2 ^ (n * 8)) ++ bytesOf n (w % 2 ^ (n * 8))
+unfolding bytesOf
+cut zero m w = let whole : w / 1 ≡ w = omega arith in rw (zero-add, whole, append-nil)
+cut (suc n) m w =
+    let up : suc n * 8 ≡ n * 8 + 8 = omega arith in
+    let high-part : w / 256 / 2 ^ (n * 8) ≡ w / 2 ^ (suc n * 8) = shr-shr w 8 (n * 8) ∙ ap (λ (k : ℕ). w / 2 ^ k) (add-comm 8 (n * 8) ∙ sym up) in
+    let low-part : w / 256 % 2 ^ (n * 8) ≡ w % 2 ^ (suc n * 8) / 256 = rw up (sym (field w (n * 8) 8)) in
+    let last : w % 256 ≡ w % 2 ^ (suc n * 8) % 256 = rw up (sym (mod-mod-pow w (n * 8) 8)) in
+    rw (suc-add, cut n m (w / 256), high-part, low-part, last, append-assoc)
+
+-- two numbers set side by side by a shift and `or`
+pub joined : (n m u v : ℕ) → u < 2 ^ (m * 8) → v < 2 ^ (n * 8)
+    → bytesOf (n + m) (bitOr (u * 2 ^ (n * 8) % 2 ^ (m * 8 + n * 8)) v) ≡ bytesOf m u ++ bytesOf n v
+joined n m u v h l =
+    rw (shl-exact (m * 8) (n * 8) (m * 8 + n * 8) h (omega arith), or-shifted u (n * 8) v l, cut n m, high u (n * 8) l, low u (n * 8) l)
+
+-- into the register: the upper bytes first
+pub in-two : (n m c w : ℕ)
+    → crcFrom (crcFrom c (bytesOf m (w / 2 ^ (n * 8)))) (bytesOf n (w % 2 ^ (n * 8))) ≡ crcFrom c (bytesOf (n + m) w)
+in-two n m c w = sym (ap (crcFrom c) (cut n m w) ∙ from-append c (bytesOf m (w / 2 ^ (n * 8))) (bytesOf n (w % 2 ^ (n * 8))))
+
+-- the sums of two registers and of two numbers give the sum of what they give
+pub both-xor : (n a b v w : ℕ) → crcFrom (bitXor a b) (bytesOf n (bitXor v w)) ≡ bitXor (crcFrom a (bytesOf n v)) (crcFrom b (bytesOf n w))
+unfolding bytesOf
+both-xor zero a b v w = rw (from-none, from-none, from-none)
+both-xor (suc n) a b v w =
+    rw (xor-shr v w 8, xor-mod v w 8, from-append, from-append a, from-append b, from-one, from-one, from-one, both-xor n a b (v / 256) (w / 256))
+    (byteIn-xor (crcFrom a (bytesOf n (v / 256))) (crcFrom b (bytesOf n (w / 256))) (v % 256) (w % 256))
+
+-- ---- the bytes of a list
+
+-- what stands at n places from i on
+abbrev pub places : ℕ → ℕ → List ℕ → List ℕ
+places zero i l = []
+places (suc n) i l = getD l i 0 ∷ places n (suc i) l
+
+pub places-are : (n i : ℕ) (l : List ℕ) → i + n ≤ length l → places n i l ≡ take n (drop i l)
+places-are zero i l h = refl
+places-are (suc n) i l h = rw (drop-cons l i 0 (omega arith), places-are n (suc i) l (omega arith))
+
+-- n bytes more of a list
+pub more : (n c : ℕ) (l : List ℕ) (i : ℕ) → crcFrom c (drop i l) ≡ crcFrom (crcFrom c (take n (drop i l))) (drop (i + n) l)
+more n c l i =
+    ap (crcFrom c) (sym (take-append-drop n (drop i l))) ∙ from-append c (take n (drop i l)) (drop n (drop i l))
+    ∙ ap (crcFrom (crcFrom c (take n (drop i l)))) (drop-drop n i l)

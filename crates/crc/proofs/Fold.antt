@@ -1,0 +1,103 @@
+-- The shifts of the code: each is a linear function, and so equal to what the register does once it is at the powers of 2.
+-- Assumes nothing.
+use mathlib.Core.Path.{_≡_, refl, sym, ap, ap₂, _∙_}
+use mathlib.Core.List.{[], _∷_, _++_}
+use Prim.Native.Nat.{ℕ, _+_, _*_, _/_, _%_, _^_, _<_}
+use native.Mathlib.Omega.{arith}
+use lib.Bits.{bitXor, xor-zero-r}
+use lib.Pow.{high, low}
+use Rattle.crc.specs.Crc.{poly, leaving, bitIn, bits, run, crcFrom}
+use Rattle.crc.specs.Fold.{bytesOf, fold}
+use Rattle.crc.proofs.Linear.{Linear, lin-down, lin-low, lin-up, lin-sum, lin-then, basis}
+use Rattle.crc.proofs.Register.{byteIn, byteIn-xor, from-one}
+use Rattle.crc.proofs.Bytes.{both-xor}
+
+id-lin : Linear (λ x. x)
+id-lin a b = refl
+
+-- a shift up that loses what passes n digits
+moved-lin : (k n : ℕ) → Linear (λ x. x * 2 ^ k % 2 ^ n)
+moved-lin k n = lin-then (λ x. x * 2 ^ k) (λ x. x % 2 ^ n) (lin-up k) (lin-low n)
+
+-- ---- one byte, by the shifts of `one`. A register and a byte are one number of 24 bits here
+
+abbrev top : ℕ → ℕ
+top n = bitXor (n / 2 ^ 8 / 2 ^ 8) (n % 2 ^ 8)
+
+abbrev mixed : ℕ → ℕ
+mixed x = bitXor x (x / 2 ^ 4)
+
+abbrev shifted : ℕ → ℕ → ℕ
+shifted c y = bitXor (bitXor (bitXor (c * 2 ^ 8 % 2 ^ 16) y) (y * 2 ^ 5 % 2 ^ 16)) (y * 2 ^ 12 % 2 ^ 16)
+
+mixed-lin : Linear (λ n. mixed (top n))
+mixed-lin =
+    lin-then top mixed
+    (lin-sum (λ n. n / 2 ^ 8 / 2 ^ 8) (λ n. n % 2 ^ 8) (lin-then (λ n. n / 2 ^ 8) (λ n. n / 2 ^ 8) (lin-down 8) (lin-down 8)) (lin-low 8))
+    (lin-sum (λ x. x) (λ x. x / 2 ^ 4) id-lin (lin-down 4))
+
+shifted-lin : Linear (λ n. shifted (n / 2 ^ 8) (mixed (top n)))
+shifted-lin =
+    let up : (k : ℕ) → Linear (λ n. mixed (top n) * 2 ^ k % 2 ^ 16) = λ k. lin-then (λ n. mixed (top n)) (λ y. y * 2 ^ k % 2 ^ 16) mixed-lin (moved-lin k 16) in
+    lin-sum (λ n. bitXor (bitXor (n / 2 ^ 8 * 2 ^ 8 % 2 ^ 16) (mixed (top n))) (mixed (top n) * 2 ^ 5 % 2 ^ 16)) (λ n. mixed (top n) * 2 ^ 12 % 2 ^ 16)
+    (lin-sum (λ n. bitXor (n / 2 ^ 8 * 2 ^ 8 % 2 ^ 16) (mixed (top n))) (λ n. mixed (top n) * 2 ^ 5 % 2 ^ 16)
+    (lin-sum (λ n. n / 2 ^ 8 * 2 ^ 8 % 2 ^ 16) (λ n. mixed (top n))
+    (lin-then (λ n. n / 2 ^ 8) (λ x. x * 2 ^ 8 % 2 ^ 16) (lin-down 8) (moved-lin 8 16)) mixed-lin) (up 5)) (up 12)
+
+byteIn-lin : Linear (λ n. byteIn (n / 2 ^ 8) (n % 2 ^ 8))
+byteIn-lin a b = ap₂ byteIn (lin-down 8 a b) (lin-low 8 a b) ∙ byteIn-xor (a / 2 ^ 8) (b / 2 ^ 8) (a % 2 ^ 8) (b % 2 ^ 8)
+
+both-at : (n : ℕ) → n < 2 ^ 24 → shifted (n / 2 ^ 8) (mixed (top n)) ≡ byteIn (n / 2 ^ 8) (n % 2 ^ 8)
+unfolding byteIn crcFrom run bits bitIn leaving poly
+both-at = basis (λ n. shifted (n / 2 ^ 8) (mixed (top n))) (λ n. byteIn (n / 2 ^ 8) (n % 2 ^ 8)) shifted-lin byteIn-lin 24 tt
+
+pub by-shifts : (c b : ℕ) → c < 2 ^ 16 → b < 2 ^ 8 → shifted c (mixed (bitXor (c / 2 ^ 8) b)) ≡ crcFrom c (b ∷ [])
+by-shifts c b h l = rw (high c 8 l, low c 8 l) at (both-at (c * 2 ^ 8 + b) (omega arith)) ∙ sym (from-one c b)
+
+-- ---- the register of 64 bits
+
+fold-lin : Linear fold
+unfolding fold
+fold-lin a b = both-xor 8 0 0 a b
+
+abbrev quotient : ℕ → ℕ
+quotient s = bitXor (bitXor (bitXor (bitXor s (s / 2 ^ 16)) (s / 2 ^ 32)) (s / 2 ^ 44)) (s / 2 ^ 48)
+
+abbrev rest : ℕ → ℕ
+rest h = bitXor (bitXor h (h * 2 ^ 20 % 2 ^ 64)) (h * 2 ^ 48 % 2 ^ 64)
+
+quotient-lin : Linear quotient
+quotient-lin =
+    lin-sum (λ s. bitXor (bitXor (bitXor s (s / 2 ^ 16)) (s / 2 ^ 32)) (s / 2 ^ 44)) (λ s. s / 2 ^ 48)
+    (lin-sum (λ s. bitXor (bitXor s (s / 2 ^ 16)) (s / 2 ^ 32)) (λ s. s / 2 ^ 44)
+    (lin-sum (λ s. bitXor s (s / 2 ^ 16)) (λ s. s / 2 ^ 32) (lin-sum (λ s. s) (λ s. s / 2 ^ 16) id-lin (lin-down 16)) (lin-down 32)) (lin-down 44))
+    (lin-down 48)
+
+rest-lin : Linear rest
+rest-lin =
+    lin-sum (λ h. bitXor h (h * 2 ^ 20 % 2 ^ 64)) (λ h. h * 2 ^ 48 % 2 ^ 64)
+    (lin-sum (λ h. h) (λ h. h * 2 ^ 20 % 2 ^ 64) id-lin (moved-lin 20 64)) (moved-lin 48 64)
+
+zeros-lin : Linear (λ c. crcFrom c (bytesOf 8 0))
+zeros-lin a b = both-xor 8 a b 0 0
+
+-- eight zero bytes more, by the shifts of `lift`
+pub lifted : (s : ℕ) → s < 2 ^ 64 → fold (rest (quotient s)) ≡ crcFrom (fold s) (bytesOf 8 0)
+unfolding fold bytesOf crcFrom run bits bitIn leaving poly
+lifted =
+    basis (λ s. fold (rest (quotient s))) (λ s. crcFrom (fold s) (bytesOf 8 0))
+    (lin-then (λ s. rest (quotient s)) fold (lin-then quotient rest quotient-lin rest-lin) fold-lin)
+    (lin-then fold (λ c. crcFrom c (bytesOf 8 0)) fold-lin zeros-lin) 64 tt
+
+added : (s w : ℕ) → bitXor (crcFrom (fold s) (bytesOf 8 0)) (fold w) ≡ crcFrom (fold s) (bytesOf 8 w)
+unfolding fold
+added s w = sym (both-xor 8 (fold s) 0 0 w) ∙ ap (λ (x : ℕ). crcFrom x (bytesOf 8 w)) (xor-zero-r (fold s))
+
+-- and eight bytes that are not zero are added to them
+pub eight-more : (s r w : ℕ) → fold r ≡ crcFrom (fold s) (bytesOf 8 0) → fold (bitXor r w) ≡ crcFrom (fold s) (bytesOf 8 w)
+eight-more s r w e = fold-lin r w ∙ ap (λ (x : ℕ). bitXor x (fold w)) e ∙ added s w
+
+-- what stands in it at the start
+pub started : fold 33999 ≡ 65535
+unfolding fold bytesOf crcFrom run bits bitIn leaving poly
+started = refl

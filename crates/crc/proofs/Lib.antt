@@ -1,0 +1,7 @@
+pub mod Shown
+pub mod Laws
+pub mod Xor
+pub mod Linear
+pub mod Register
+pub mod Bytes
+pub mod Fold

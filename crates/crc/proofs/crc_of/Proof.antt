@@ -1,0 +1,124 @@
+-- `crc::crc_of` meets its contract: in both loops the rest of the bytes still brings the register to the value for all of them.
+-- Assumes nothing.
+use mathlib.Core.Path.{_≡_, sym, ap, _∙_}
+use Prim.Native.Nat.{ℕ, _+_, _-_, _≤_}
+use native.Mathlib.Nat.{min-eq-left}
+use native.Mathlib.Omega.{arith}
+use borrow.Author.Needs.{needs}
+use lib.ListN.{length, take, drop, length-take, length-drop, drop-of-length-le}
+use Rattle.crc.specs.Crc.{crcFrom, crcOf}
+use Rattle.crc.specs.Fold.{fold}
+use Rattle.crc.proofs.Register.{from-none}
+use Rattle.crc.proofs.Bytes.{places-are, more}
+use Rattle.crc.proofs.Fold.{started}
+use Rattle.crc.proofs.crc_of.Statement.{statement}
+use Rattle.crc.proofs.crc_of.Tie as tie
+
+abbrev Inv-loop : tie.InvT-loop
+Inv-loop bytes s₀ i₀ s i = (i ≤ length bytes) × (crcFrom (fold s) (drop i bytes) ≡ crcOf bytes)
+
+abbrev μ-loop : tie.MeasureT-loop
+μ-loop bytes s₀ i₀ s i = length bytes - i
+
+abbrev Inv-loop2 : tie.InvT-loop2
+Inv-loop2 bytes s i₀ c₀ i c = (i ≤ length bytes) × (crcFrom c (drop i bytes) ≡ crcOf bytes)
+
+abbrev μ-loop2 : tie.MeasureT-loop2
+μ-loop2 bytes s i₀ c₀ i c = length bytes - i
+
+loop-holds : tie.Need-loop-holds Inv-loop μ-loop Inv-loop2 μ-loop2
+unfolding crcOf
+loop-holds c = (search needs, rw started)
+
+sub-loop : tie.Need-sub-loop Inv-loop μ-loop Inv-loop2 μ-loop2
+sub-loop c = search needs
+
+add-eight-in : tie.Need-add-eight-in Inv-loop μ-loop Inv-loop2 μ-loop2
+add-eight-in c = search needs
+
+sub-eight-in : tie.Need-sub-eight-in Inv-loop μ-loop Inv-loop2 μ-loop2
+sub-eight-in c = search needs
+
+part-eight-in-start : tie.Need-part-eight-in-start Inv-loop μ-loop Inv-loop2 μ-loop2
+part-eight-in-start c = search needs
+
+part-eight-in-end : tie.Need-part-eight-in-end Inv-loop μ-loop Inv-loop2 μ-loop2
+part-eight-in-end c = search needs
+
+eight-in-requires : tie.Need-eight-in-requires Inv-loop μ-loop Inv-loop2 μ-loop2
+eight-in-requires c κs =
+    let eight : (c .before .before .loop .i + 8) - c .before .before .loop .i ≡ 8 = omega arith in
+    rw (eight, length-take, length-drop) (min-eq-left (search needs))
+
+add-i : tie.Need-add-i Inv-loop μ-loop Inv-loop2 μ-loop2
+add-i c = search needs
+
+loop-less : tie.Need-loop-less Inv-loop μ-loop Inv-loop2 μ-loop2
+loop-less c = search needs
+
+loop-again : tie.Need-loop-again Inv-loop μ-loop Inv-loop2 μ-loop2
+loop-again c =
+    let at = c .before .before .before .loop in
+    let bytes = c .before .before .before .before .before .args .bytes .now in
+    let eight : (at .i + 8) - at .i ≡ 8 = omega arith in
+    let told : fold (c .eight-in .result) ≡ crcFrom (fold (at .s)) (take 8 (drop (at .i) bytes)) = rw eight at (c .eight-in .ensures) in
+    (search needs, ap (λ (x : ℕ). crcFrom x (drop (at .i + 8) bytes)) told ∙ sym (more 8 (fold (at .s)) bytes (at .i)) ∙ at .inv .1)
+
+fold-of-requires : tie.Need-fold-of-requires Inv-loop μ-loop Inv-loop2 μ-loop2
+fold-of-requires c κs = search needs
+
+loop2-holds : tie.Need-loop2-holds Inv-loop μ-loop Inv-loop2 μ-loop2
+loop2-holds c = (search needs, rw (c .fold-of .ensures) (c .before .before .loop .inv .1))
+
+shared-slice-read-one : tie.Need-shared-slice-read-one Inv-loop μ-loop Inv-loop2 μ-loop2
+shared-slice-read-one c = search needs
+
+one-requires : tie.Need-one-requires Inv-loop μ-loop Inv-loop2 μ-loop2
+one-requires c κs = search needs
+
+add-i-2 : tie.Need-add-i-2 Inv-loop μ-loop Inv-loop2 μ-loop2
+add-i-2 c = search needs
+
+loop2-less : tie.Need-loop2-less Inv-loop μ-loop Inv-loop2 μ-loop2
+loop2-less c = search needs
+
+loop2-again : tie.Need-loop2-again Inv-loop μ-loop Inv-loop2 μ-loop2
+loop2-again c =
+    let at = c .before .before .before .loop2 in
+    let bytes = c .before .before .before .before .before .before .before .before .args .bytes .now in (
+      search needs,
+      ap (λ (x : ℕ). crcFrom x (drop (at .i + 1) bytes)) (c .one .ensures ∙ ap (crcFrom (at .c)) (places-are 1 (at .i) bytes (search needs)))
+          ∙ sym (more 1 (at .c) bytes (at .i)) ∙ at .inv .1,
+    )
+
+returns : tie.Need-returns Inv-loop μ-loop Inv-loop2 μ-loop2
+returns c =
+    let end : length (c .before .before .before .before .before .before .args .bytes .now) ≤ c .before .loop2 .i = search needs in
+    rw (drop-of-length-le, from-none) at (c .before .loop2 .inv .1)
+
+pub crc-of-spec : {M : Type 1} → statement M
+crc-of-spec =
+    tie.close
+    (tie.spec
+    Inv-loop
+    μ-loop
+    Inv-loop2
+    μ-loop2
+    loop-holds
+    sub-loop
+    add-eight-in
+    sub-eight-in
+    part-eight-in-start
+    part-eight-in-end
+    eight-in-requires
+    add-i
+    loop-less
+    loop-again
+    fold-of-requires
+    loop2-holds
+    shared-slice-read-one
+    one-requires
+    add-i-2
+    loop2-less
+    loop2-again
+    returns)

@@ -1,0 +1,29 @@
+// The check of a run of bytes: CRC-16 with the polynomial 0x1021 from 0xFFFF, the high bit of each byte first.
+mod narrow;
+mod wide;
+
+use narrow::one;
+use wide::eight_in;
+use wide::fold_of;
+ghost use mathlib.Core.Path.{_≡_};
+ghost use Rattle.crc.specs.Crc.{crcOf};
+
+// A number of 64 bits whose eight bytes leave 0xFFFF in an empty register.
+const START: u64 = 33999;
+
+pub fn crc_of(bytes: &[u8]) -> u16
+    ensures { λ r. ⌜ r ≡ crcOf (now (bytes .entry)) ⌝ }
+{
+    let mut s = START;
+    let mut i: usize = 0;
+    while bytes.len() - i >= 8 {
+        s = eight_in(s, &bytes[i..i + 8]);
+        i += 8;
+    }
+    let mut c = fold_of(s);
+    while i < bytes.len() {
+        c = one(c, bytes[i]);
+        i += 1;
+    }
+    c
+}
