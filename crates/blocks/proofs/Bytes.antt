@@ -1,0 +1,67 @@
+-- Bytes of a store: what a run of stores changes and what it keeps, and when two blocks are equal.
+use Prim.Native.Nat.{ℕ, suc, _+_, _*_, _≤_, _<_}
+use native.Mathlib.Omega.{arith}
+use native.Mathlib.Nat.{add-zero}
+use mathlib.Core.Path.{_≡_, refl, sym, ap, _∙_}
+use mathlib.Core.List.{List, [], _∷_, _++_, append-assoc}
+use lib.ListN.{length, take, drop, getD, set, length-drop}
+use lib.Seq.{sets, sets-eq, length-sets, ext-getD, getD-take, getD-drop, getD-set-other, length-take-le, take-at, drop-at}
+use lib.Dec.{ltb}
+use borrow.Author.Tests.{ltb-true, ltb-false}
+use Rattle.blocks.proofs.Places.{split}
+use Rattle.blocks.specs.Stores.{blockAt}
+
+-- one store more at the end of a run
+pub sets-more : (vs l : List ℕ) (i a : ℕ) → sets l i (vs ++ (a ∷ [])) ≡ set (sets l i vs) (i + length vs) a
+sets-more [] l i a = ap (λ (k : ℕ). set l k a) (sym (add-zero i))
+sets-more (v ∷ vs) l i a =
+    let e : suc i + length vs ≡ i + suc (length vs) = omega arith in
+    sets-more vs (set l i v) (suc i) a ∙ ap (λ (k : ℕ). set (sets (set l i v) (suc i) vs) k a) e
+
+-- a run of stores keeps each byte before it ..
+pub sets-before : (vs l : List ℕ) (i k : ℕ) → k < i → getD (sets l i vs) k 0 ≡ getD l k 0
+sets-before [] l i k h = refl
+sets-before (v ∷ vs) l i k h = sets-before vs (set l i v) (suc i) k (omega arith) ∙ getD-set-other l i k v 0 (λ e. omega arith)
+
+-- .. and each byte behind it
+pub sets-behind : (vs l : List ℕ) (i k : ℕ) → i + length vs ≤ k → getD (sets l i vs) k 0 ≡ getD l k 0
+sets-behind [] l i k h = refl
+sets-behind (v ∷ vs) l i k h = sets-behind vs (set l i v) (suc i) k (omega arith) ∙ getD-set-other l i k v 0 (λ e. omega arith)
+
+-- a place in the store has its 256 bytes there
+pub block-length : (s : List ℕ) (i : ℕ) → i * 256 + 256 ≤ length s → length (blockAt s i) ≡ 256
+unfolding blockAt
+block-length s i h = length-take-le 256 (drop (i * 256) s) (omega (arith, length-drop (i * 256) s))
+
+pub block-byte : (s : List ℕ) (i k : ℕ) → k < 256 → getD (blockAt s i) k 0 ≡ getD s (i * 256 + k) 0
+unfolding blockAt
+block-byte s i k h = getD-take 256 (drop (i * 256) s) k 0 h ∙ getD-drop (i * 256) s k 0
+
+-- two stores have the same block at a place where they have the same 256 bytes
+pub block-same : (s t : List ℕ) (i : ℕ) → i * 256 + 256 ≤ length s → i * 256 + 256 ≤ length t
+    → ((k : ℕ) → k < 256 → getD s (i * 256 + k) 0 ≡ getD t (i * 256 + k) 0) → blockAt s i ≡ blockAt t i
+block-same s t i hs ht f =
+    let ls = block-length s i hs in
+    ext-getD 0 (blockAt s i) (blockAt t i) (ls ∙ sym (block-length t i ht))
+    (λ k h. let h2 : k < 256 = omega arith in block-byte s i k h2 ∙ f k h2 ∙ sym (block-byte t i k h2))
+
+-- a block b written at place i
+module _ (s : List ℕ) (i : ℕ) (b : List ℕ) (hs : i * 256 + 256 ≤ length s) (hb : length b ≡ 256) where
+  -- is the block at that place
+  pub block-there : blockAt (sets s (i * 256) b) i ≡ b
+  unfolding blockAt
+  block-there =
+      let at = i * 256 in
+      let rest = drop (at + length b) s in
+      ap (λ (l : List ℕ). take 256 (drop at l)) (sets-eq b s at (omega arith) ∙ append-assoc (take at s) b rest)
+      ∙ ap (λ (l : List ℕ). take 256 l) (drop-at (take at s) (b ++ rest) at (length-take-le at s (omega arith)))
+      ∙ take-at b rest 256 hb
+
+  -- and leaves the block at each other place
+  pub block-other : (j : ℕ) → j * 256 + 256 ≤ length s → (j ≡ i → ⊥) → blockAt (sets s (i * 256) b) j ≡ blockAt s j
+  block-other j hj ne =
+      block-same (sets s (i * 256) b) s j (omega (arith, length-sets s (i * 256) b)) hj
+      (λ k h.
+      split (ltb j i)
+      (λ e. sets-before b s (i * 256) (j * 256 + k) (omega (arith, ltb-true j i e)))
+      (λ e. sets-behind b s (i * 256) (j * 256 + k) (omega (arith, ltb-false j i e, ne))))

@@ -1,0 +1,5 @@
+pub mod Places
+pub mod Bytes
+pub mod Line
+pub mod Laws
+pub mod Shown

@@ -1,0 +1,34 @@
+use Prim.Native.Nat.{ℕ, _*_}
+use native.Mathlib.Nat.{add-sub-cancel-left}
+use mathlib.Core.Path.{ap}
+use lib.ListN.{take, drop}
+use denote.Ref.{now}
+use borrow.Author.Needs.{needs}
+use Rattle.blocks.specs.Stores.{blockAt}
+use Rattle.blocks.proofs.block_at.Statement.{statement}
+use Rattle.blocks.proofs.block_at.Tie as tie
+
+mul-from : tie.Need-mul-from
+mul-from c = search needs
+
+add-result : tie.Need-add-result
+add-result c = search needs
+
+sub-result : tie.Need-sub-result
+sub-result c = search needs
+
+part-result-start : tie.Need-part-result-start
+part-result-start c = search needs
+
+part-result-end : tie.Need-part-result-end
+part-result-end c = search needs
+
+returns : tie.Need-returns
+unfolding blockAt
+returns c =
+    let a = c .before .args in
+    ap (λ (k : ℕ). take k (drop (a .at * 256) (now (a .store)))) (add-sub-cancel-left (a .at * 256) 256)
+
+pub block-at-spec : {M : Type 1} → statement M
+block-at-spec =
+    tie.close (tie.spec mul-from add-result sub-result part-result-start part-result-end returns)

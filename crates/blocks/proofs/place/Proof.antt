@@ -1,0 +1,26 @@
+-- Fewer places on than there are ahead: further on; else round the end.
+use native.Mathlib.Omega.{arith}
+use mathlib.Core.Path.{sym}
+use borrow.Author.Needs.{needs}
+use Rattle.blocks.proofs.Places.{place-on, place-round}
+use Rattle.blocks.proofs.place.Statement.{statement}
+use Rattle.blocks.proofs.place.Tie as tie
+
+sub-ahead : tie.Need-sub-ahead
+sub-ahead c = search needs
+
+add-result : tie.Need-add-result
+add-result c = search needs
+
+returns : tie.Need-returns
+returns c =
+    let a = c .before .args in
+    sym (place-on (a .capacity) (a .from) (a .k) (omega arith))
+
+returns-2 : tie.Need-returns-2
+returns-2 c =
+    let a = c .before .args in
+    omega (arith, place-round (a .capacity) (a .from) (a .k) (omega arith))
+
+pub place-spec : {M : Type 1} → statement M
+place-spec = tie.close (tie.spec sub-ahead add-result returns returns-2)

@@ -1,0 +1,9 @@
+pub mod Eight
+pub mod Mixed
+pub mod Bounds
+pub mod Sums
+pub mod Bytes
+pub mod Tiles
+pub mod Means
+pub mod Laws
+pub mod Shown

@@ -1,0 +1,94 @@
+-- `params::sound` meets its contract: at each turn, the flag and the rows that are left decide together what all the rows decide.
+-- Assumes nothing.
+use Prim.Native.Nat.{ℕ, _+_, _≤_, _<_, _-_}
+use mathlib.Core.Path.{_≡_, sym}
+use mathlib.Core.Bool.{Bool, _&&_, and-assoc, and-true}
+use mathlib.Core.List.{List}
+use lib.ListN.{length, drop, getD, drop-of-length-le, length-map}
+use lib.Seq.{drop-cons}
+use lib.IntN.{ℤ, pos}
+use mir.Syntax.{w32}
+use mir.Val.{toZ, ofZ}
+use borrow.Author.Needs.{needs}
+use native.Mathlib.Omega.{arith}
+use native.Mathlib.Numerals.{add-one}
+use Rattle.params.specs.Rows.{rows, noRow}
+use Rattle.params.specs.Rules.{inRow, inRows, soundOf}
+use Rattle.params.proofs.sound.Statement.{statement}
+use Rattle.params.proofs.sound.Tie as tie
+
+module _ (ok : Bool) (vs : List ℤ) where
+  -- the next value in its row, and then those that are left
+  next : (i : ℕ) → i < 12 → i < length vs → ok && inRows (drop i rows) (drop i vs) ≡ ok && inRow (getD rows i noRow) (getD vs i (pos 0)) && inRows (drop (i + 1) rows) (drop (i + 1) vs)
+  unfolding inRows
+  next i h k = rw (drop-cons rows i noRow h, drop-cons vs i (pos 0) k, add-one) (sym (and-assoc ok _ _))
+
+  -- after the last row none is left
+  end : length vs ≤ 12 → ok && inRows (drop 12 rows) (drop 12 vs) ≡ ok
+  unfolding inRows
+  end h = rw (drop-of-length-le vs h) (and-true ok)
+
+abbrev Inv-loop : tie.InvT-loop
+Inv-loop p ok₀ i₀ ok i = (i ≤ 12) × (ok && inRows (drop i rows) (drop i (p .values)) ≡ inRows rows (p .values))
+
+abbrev μ-loop : tie.MeasureT-loop
+μ-loop p ok₀ i₀ ok i = 12 - i
+
+loop-holds : tie.Need-loop-holds Inv-loop μ-loop
+loop-holds c = search needs
+
+mul-v : tie.Need-mul-v Inv-loop μ-loop
+mul-v c = search needs
+
+element-copy-out-v : tie.Need-element-copy-out-v Inv-loop μ-loop
+element-copy-out-v c = search needs
+
+row-at-requires : tie.Need-row-at-requires Inv-loop μ-loop
+row-at-requires c κs = search needs
+
+in-row-requires : tie.Need-in-row-requires Inv-loop μ-loop
+in-row-requires c κs = search needs
+
+add-i : tie.Need-add-i Inv-loop μ-loop
+add-i c = search needs
+
+loop-less : tie.Need-loop-less Inv-loop μ-loop
+loop-less c = search needs
+
+loop-again : tie.Need-loop-again Inv-loop μ-loop
+loop-again c =
+    let at = c .before .before .before .before .loop in
+    let vs = c .before .before .before .before .before .args .t1 .values in
+    let back : toZ w32 (ofZ w32 (getD vs (at .i) (pos 0))) ≡ getD vs (at .i) (pos 0) = search needs in
+    let turn = next (at .ok) vs (at .i) (search needs) (search needs) in
+    (search needs, cc)
+
+in-span-requires : tie.Need-in-span-requires Inv-loop μ-loop
+in-span-requires c κs = search needs
+
+returns : tie.Need-returns Inv-loop μ-loop
+unfolding soundOf
+returns c =
+    let at = c .before .before .loop in
+    let vs = c .before .before .before .args .t1 .values in
+    let last : at .i ≡ 12 = omega arith in
+    let twelve : length vs ≤ 12 = omega (arith, length-map vs (λ v. v), c .before .before .before .good .0 .1 .1 .0 .1 .0 .1) in
+    let all = end (at .ok) vs twelve in
+    cc
+
+pub sound-spec : {M : Type 1} → statement M
+sound-spec =
+    tie.close
+    (tie.spec
+    Inv-loop
+    μ-loop
+    loop-holds
+    mul-v
+    element-copy-out-v
+    row-at-requires
+    in-row-requires
+    add-i
+    loop-less
+    loop-again
+    in-span-requires
+    returns)

@@ -1,0 +1,93 @@
+-- The rules of the parameters, each a definition that decides the result.
+use Prim.Native.Nat.{ℕ, _-_}
+use mathlib.Core.List.{List, [], _∷_, map}
+use mathlib.Core.Logic.{_⊎_, inl, inr}
+use mathlib.Core.Bool.{Bool, true, false, not, _&&_, cond}
+use lib.IntN.{ℤ, pos}
+use lib.Signed.{ltZ, leZ}
+use lib.Dec.{leb}
+use lib.ListN.{getD, set, replicate}
+use lib.Seq.{sets}
+use Rattle.params.specs.declared.Row.{Row}
+use Rattle.params.specs.declared.Params.{Params}
+use Rattle.params.specs.declared.Wrote.{Wrote}
+use Rattle.params.specs.declared.Reading.{Reading}
+use Rattle.params.specs.declared.Reading.the-variants.{Held, Unknown}
+use Rattle.params.specs.Rows.{rows, ids, rowOf}
+
+-- "Ids 0 and over 12 get 0x39": an id is 1 to 12
+unfoldable pub isId : ℕ → Bool
+isId id = leb 1 id && leb id 12
+
+-- the value of an id
+abbrev pub valueAt : Params → ℕ → ℤ
+valueAt p id = getD (p .values) (id - 1) (pos 0)
+
+-- whether an id is marked written
+abbrev pub marked : Params → ℕ → Bool
+marked p id = getD (p .written) (id - 1) false
+
+-- a value from its row's least to its most
+abbrev pub inRow : Row → ℤ → Bool
+inRow r v = leZ (r .least) v && leZ v (r .most)
+
+-- "parameter 1 below parameter 2"
+abbrev pub inSpan : Params → Bool
+inSpan p = ltZ (valueAt p 1) (valueAt p 2)
+
+-- each value in its row, and as many values as rows
+unfoldable pub inRows : List Row → List ℤ → Bool
+inRows [] [] = true
+inRows [] (v ∷ vs) = false
+inRows (r ∷ rs) [] = false
+inRows (r ∷ rs) (v ∷ vs) = inRow r v && inRows rs vs
+
+-- "each parameter in its row and parameter 1 below parameter 2"
+unfoldable pub soundOf : Params → Bool
+soundOf p = inRows rows (p .values) && inSpan p
+
+-- "parameters .. at their starts", "nothing marked written"
+unfoldable pub startOf : Params
+startOf = record { values = map (λ (r : Row). r .start) rows; written = replicate 12 false }
+
+-- the state with a value stored and marked
+abbrev pub stored : Params → ℕ → ℤ → Params
+stored p id v = record { values = set (p .values) (id - 1) v; written = set (p .written) (id - 1) true }
+
+-- a write is taken: an id, a value in its row, and not "a write that would leave 1 not below 2"
+unfoldable pub allowed : Params → ℕ → ℤ → Bool
+allowed p id v = isId id && (inRow (rowOf id) v && inSpan (stored p id v))
+
+-- a write: stored and marked when it is taken, else everything as it was
+unfoldable pub writeOf : Params → ℕ → ℤ → Wrote
+writeOf p id v = record { taken = allowed p id v; params = cond (allowed p id v) (stored p id v) p }
+
+-- "A field outside its bounds: 0x39"
+abbrev pub outside : ℕ
+outside = 0x39
+
+-- what a read of an id is answered: its value, on the right, or that error, on the left
+unfoldable pub valueOf : Params → ℕ → ℕ ⊎ ℤ
+valueOf p id = cond (isId id) (inr (valueAt p id)) (inl outside)
+
+-- the number or the value that each answer of the code stands for
+abbrev pub said : Reading → ℕ ⊎ ℤ
+said Unknown = inl outside
+said (Held v) = inr v
+
+-- those of a list that pass a test, in the list's order
+unfoldable pub filter : (ℕ → Bool) → List ℕ → List ℕ
+filter test [] = []
+filter test (x ∷ xs) = cond (test x) (x ∷ filter test xs) (filter test xs)
+
+-- "asked .. not written since Initialise"
+abbrev pub isMissing : Params → ℕ → Bool
+isMissing p id = rowOf id .asked && not (marked p id)
+
+-- all such ids, rising
+unfoldable pub missingIds : Params → List ℕ
+missingIds p = filter (isMissing p) ids
+
+-- "eight ids: the asked parameters not written since Initialise, rising, then zeros"
+unfoldable pub missingOf : Params → List ℕ
+missingOf p = sets (replicate 8 0) 0 (missingIds p)

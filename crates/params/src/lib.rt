@@ -1,0 +1,213 @@
+// The twelve parameters of the pod: their rows as one constant table, and the state by value.
+ghost use mathlib.Core.Path.{_≡_};
+ghost use Prim.Native.Nat.{_<_};
+ghost use lib.ListN.{getD};
+ghost use Rattle.params.specs.Rows.{rows, noRow};
+ghost use Rattle.params.specs.Rules.{inRow, inSpan, startOf, writeOf, valueOf, said, missingOf, soundOf};
+
+pub struct Row {
+    pub least: i32,
+    pub most: i32,
+    pub start: i32,
+    pub asked: bool,
+}
+
+// The values, and whether each was written since Initialise; id 1 first.
+pub struct Params {
+    pub values: [i32; 12],
+    pub written: [bool; 12],
+}
+
+// The next state: the same one where the write was not taken.
+pub struct Wrote {
+    pub taken: bool,
+    pub params: Params,
+}
+
+// What an id holds: nothing where it is no id.
+pub enum Reading {
+    Held(i32),
+    Unknown,
+}
+
+const TRIM: Row = Row {
+    least: -500,
+    most: 500,
+    start: 0,
+    asked: false,
+};
+
+// The rows by id.
+const ROWS: [Row; 12] = [
+    // 1: span low, 0.01 C
+    Row {
+        least: -4000,
+        most: 15000,
+        start: -2000,
+        asked: true,
+    },
+    // 2: span high, 0.01 C
+    Row {
+        least: -4000,
+        most: 15000,
+        start: 12000,
+        asked: true,
+    },
+    // 3: emissivity, thousandths
+    Row {
+        least: 100,
+        most: 1000,
+        start: 950,
+        asked: true,
+    },
+    // 4: frame interval, ms
+    Row {
+        least: 40,
+        most: 60000,
+        start: 1000,
+        asked: false,
+    },
+    // 5: passes
+    Row {
+        least: 1,
+        most: 16,
+        start: 16,
+        asked: false,
+    },
+    // 6: reflected, 0.01 C
+    Row {
+        least: -4000,
+        most: 15000,
+        start: 2000,
+        asked: true,
+    },
+    // 7: lens
+    Row {
+        least: 0,
+        most: 3,
+        start: 0,
+        asked: true,
+    },
+    // 8: palette
+    Row {
+        least: 0,
+        most: 7,
+        start: 0,
+        asked: false,
+    },
+    // 9 to 12: trims
+    TRIM,
+    TRIM,
+    TRIM,
+    TRIM,
+];
+
+// The row of the id i + 1.
+fn row_at(i: usize) -> Row
+    requires { ⌜ i < 12 ⌝ }
+    ensures { λ r. ⌜ r ≡ getD rows i noRow ⌝ }
+{
+    ROWS[i]
+}
+
+// Whether a value is in a row.
+fn in_row(r: Row, v: i32) -> bool
+    ensures { λ b. ⌜ b ≡ inRow r v ⌝ }
+{
+    (r.least <= v) & (v <= r.most)
+}
+
+// Whether parameter 1 is below parameter 2.
+fn in_span(p: Params) -> bool
+    ensures { λ b. ⌜ b ≡ inSpan p ⌝ }
+{
+    p.values[0] < p.values[1]
+}
+
+// All parameters at their starts, nothing written.
+pub fn start() -> Params
+    ensures { λ r. ⌜ r ≡ startOf ⌝ }
+{
+    let mut values = [0i32; 12];
+    for i in 0..12usize {
+        let r = row_at(i);
+        let s = r.start;
+        values[i] = s;
+    }
+    Params {
+        values,
+        written: [false; 12],
+    }
+}
+
+// A write: stored and marked, or refused with the state as it was.
+pub fn write(p: Params, id: u8, value: i32) -> Wrote
+    ensures { λ r. ⌜ r ≡ writeOf p id value ⌝ }
+{
+    match id {
+        1..=12 => {
+            let i = (id - 1) as usize;
+            let mut q = p;
+            q.values[i] = value;
+            q.written[i] = true;
+            if in_row(row_at(i), value) & in_span(q) {
+                Wrote {
+                    taken: true,
+                    params: q,
+                }
+            } else {
+                Wrote {
+                    taken: false,
+                    params: p,
+                }
+            }
+        }
+        _ => Wrote {
+            taken: false,
+            params: p,
+        },
+    }
+}
+
+// The value of an id.
+pub fn value(p: Params, id: u8) -> Reading
+    ensures { λ r. ⌜ said r ≡ valueOf p id ⌝ }
+{
+    match id {
+        1..=12 => {
+            let i = (id - 1) as usize;
+            let v = p.values[i];
+            Reading::Held(v)
+        }
+        _ => Reading::Unknown,
+    }
+}
+
+// The ids that are asked and not written, rising, then zeros.
+pub fn missing(p: Params) -> [u8; 8]
+    ensures { λ r. ⌜ r ≡ missingOf p ⌝ }
+{
+    let mut out = [0u8; 8];
+    let mut n: usize = 0;
+    for i in 0..12usize {
+        let r = row_at(i);
+        let done = p.written[i];
+        if r.asked & !done {
+            out[n] = (i + 1) as u8;
+            n += 1;
+        }
+    }
+    out
+}
+
+// Whether each value is in its row, and parameter 1 below parameter 2.
+pub fn sound(p: Params) -> bool
+    ensures { λ r. ⌜ r ≡ soundOf p ⌝ }
+{
+    let mut ok = true;
+    for i in 0..12usize {
+        let v = p.values[i];
+        ok = ok & in_row(row_at(i), v);
+    }
+    ok & in_span(p)
+}

@@ -1,0 +1,121 @@
+// The byte pipe's input half: bytes from the camera gather, and go to the aircraft eight at a time, or fewer after a timeout.
+ghost use mathlib.Core.Path.{_≡_};
+ghost use Prim.Native.Nat.{_≤_};
+ghost use lib.ListN.{take};
+ghost use Rattle.pipe.specs.Input.{packet, emptyInput, freshInput, countUp, byteOf, timeoutOf, soundOf, gatheringOf};
+
+// Up to seven bytes gathered from the start of the array, and the timeouts that sent something.
+pub struct Input {
+    pub bytes: [u8; 8],
+    pub gathered: usize,
+    pub timeouts: u8,
+}
+
+// What is sent: the first `count` bytes of the array, and zeros behind them.
+pub struct Sent {
+    pub bytes: [u8; 8],
+    pub count: usize,
+}
+
+// What a call sends, and the input after it.
+pub struct Piped {
+    pub sent: Sent,
+    pub input: Input,
+}
+
+// The packet of the first n bytes. Bytes left behind them by an earlier packet are not handed out.
+fn first(bytes: [u8; 8], n: usize) -> Sent
+    requires { ⌜ n ≤ 8 ⌝ }
+    ensures { λ r. ⌜ r ≡ packet (take n bytes) ⌝ }
+{
+    let mut sent = bytes;
+    for i in n..8 {
+        sent[i] = 0;
+    }
+    Sent {
+        bytes: sent,
+        count: n,
+    }
+}
+
+// Nothing gathered, after so many timeouts.
+fn emptied(timeouts: u8) -> Input
+    ensures { λ r. ⌜ r ≡ emptyInput timeouts ⌝ }
+{
+    Input {
+        bytes: [0; 8],
+        gathered: 0,
+        timeouts,
+    }
+}
+
+// One more, and 15 stays 15.
+fn counted(timeouts: u8) -> u8
+    ensures { λ r. ⌜ r ≡ countUp timeouts ⌝ }
+{
+    if timeouts < 15 { timeouts + 1 } else { 15 }
+}
+
+impl Input {
+    // Nothing gathered and no timeouts, as from power and after Initialise.
+    pub fn fresh() -> Input
+        ensures { λ r. ⌜ r ≡ freshInput ⌝ }
+    {
+        emptied(0)
+    }
+
+    // One byte more; the eighth sends all eight.
+    pub fn byte(mut self, b: u8) -> Piped
+        requires { ⌜ self .gathered ≤ 7 ⌝ }
+        ensures { λ r. ⌜ r ≡ byteOf self b ⌝ }
+    {
+        let at = self.gathered;
+        self.bytes[at] = b;
+        let bytes = self.bytes;
+        if at < 7 {
+            self.gathered = at + 1;
+            Piped {
+                sent: first(bytes, 0),
+                input: self,
+            }
+        } else {
+            Piped {
+                sent: first(bytes, 8),
+                input: emptied(self.timeouts),
+            }
+        }
+    }
+
+    // What is gathered goes as a short packet and one is counted, up to 15; with none gathered nothing happens.
+    pub fn timeout(self) -> Piped
+        requires { ⌜ self .gathered ≤ 7 ⌝ }
+        ensures { λ r. ⌜ r ≡ timeoutOf self ⌝ }
+    {
+        let n = self.gathered;
+        let bytes = self.bytes;
+        if n == 0 {
+            return Piped {
+                sent: first(bytes, 0),
+                input: self,
+            };
+        }
+        Piped {
+            sent: first(bytes, n),
+            input: emptied(counted(self.timeouts)),
+        }
+    }
+
+    // Whether the bounds hold: at most 7 bytes gathered and at most 15 timeouts.
+    pub fn sound(self) -> bool
+        ensures { λ r. ⌜ r ≡ soundOf self ⌝ }
+    {
+        (self.gathered <= 7) & (self.timeouts <= 15)
+    }
+
+    // Whether 1 to 7 bytes are gathered.
+    pub fn gathering(self) -> bool
+        ensures { λ r. ⌜ r ≡ gatheringOf self ⌝ }
+    {
+        (1 <= self.gathered) & (self.gathered <= 7)
+    }
+}
