@@ -1,0 +1,243 @@
+-- What callers may want to know of packets and answers, without opening a definition.
+-- Assumes nothing.
+use Prim.Native.Nat.{ℕ, suc, _+_, _^_, _/_, _<_, _≤_, _-_}
+use native.Mathlib.Omega.{arith}
+use mathlib.Core.Path.{_≡_, refl, sym, ap, _∙_}
+use mathlib.Core.List.{List, [], _∷_}
+use mathlib.Core.Logic.{_⊎_, ⊎-elim}
+use mathlib.Core.Bool.{Bool, true, false, _&&_}
+use borrow.Author.Tests.{leb-true, le-leb, eqb-true}
+use lib.Dec.{leb, eqb}
+use lib.IntN.{ℤ, pos, negsuc}
+use lib.ListN.{length, getD, take, drop}
+use lib.Signed.{mag}
+use Rattle.crc.specs.Crc.{crcOf}
+use Rattle.packets.specs.declared.Fields.{Fields}
+use Rattle.packets.specs.declared.Report.{Report}
+use Rattle.packets.specs.declared.Command.{Command}
+use Rattle.packets.specs.declared.Command.the-variants.{Initialise, Status, Update, Write, Read, Priority, Data, Shutdown}
+use Rattle.packets.specs.declared.Parsed.{Parsed}
+use Rattle.packets.specs.declared.Parsed.the-variants.{Nothing, Error, Acknowledgement, Asked}
+use Rattle.packets.specs.Numbers.{highFirst, numberOf, signedOf, unsignedOf}
+use Rattle.packets.specs.Commands.{fieldsBounded, findIn, listedIn, rowAt, isCode, placeOf, rowOf, saidOf}
+use Rattle.packets.specs.Reading.{first, crcRight, readOf}
+use Rattle.packets.specs.Answers.{closed, answerOf, errorAnswer, doneAnswer, statusBody, statusAnswer, valueBody, valueAnswer, dataAnswer, fieldBytes, bodyOf, bytesOf, Sendable}
+use Rattle.packets.proofs.Digits.{number-back}
+use Rattle.packets.proofs.Complement.{signed-back}
+use Rattle.packets.proofs.Rows.{split}
+use Rattle.packets.proofs.Checks.{empty, short, damaged}
+use Rattle.packets.proofs.Room.{answer-length}
+use Rattle.packets.proofs.Bodies.{status-body-length, value-body-length}
+use Rattle.packets.proofs.First.{named, not-empty}
+use Rattle.packets.proofs.Said.{one-to-one}
+use Rattle.packets.proofs.Sent.{rest-of, last-of, closed-right, done-taken, error-taken, sent}
+
+-- ---- what `read` promises
+
+-- it decides the result: whatever says the same is the same
+pub read-decided : (r : Parsed) (p : List ℕ) → saidOf r ≡ saidOf (readOf p) → r ≡ readOf p
+read-decided r p = one-to-one r (readOf p)
+
+-- no two things that a packet may be taken as have the same numbers
+pub said-once : (p q : Parsed) → saidOf p ≡ saidOf q → p ≡ q
+said-once = one-to-one
+
+-- an empty packet is read as nothing
+pub nothing : readOf [] ≡ Nothing
+nothing = empty [] refl
+
+-- a packet that is not empty, of under 4 bytes or with a wrong CRC, gets the error 0x01 with its own first byte
+pub too-short : (p : List ℕ) → 0 < length p → length p < 4 → readOf p ≡ Error (first p) 0x01
+too-short = short
+
+pub crc-wrong : (p : List ℕ) → 0 < length p → crcRight p ≡ false → readOf p ≡ Error (first p) 0x01
+crc-wrong = damaged
+
+-- what is not empty is taken as something, and the first byte said is the packet's: that of an error, of an acknowledgement, a command's code
+pub first-said : (p : List ℕ) → 0 < length p → getD (saidOf (readOf p)) 1 (negsuc 0) ≡ pos (first p)
+first-said = named
+
+-- so only an empty packet is read as nothing
+pub only-nothing : (p : List ℕ) → readOf p ≡ Nothing → length p ≡ 0
+unfolding saidOf
+only-nothing p e =
+    split (eqb (length p) 0) (λ z. eqb-true (length p) 0 z)
+    (λ z. let n = first-said p (not-empty p z) in let no-number : _≡_ {A = ℕ} 0 1 = cc in absurd (omega arith))
+
+not-nothing : (p : List ℕ) (x : Parsed) → readOf p ≡ x → (x ≡ Nothing → ⊥) → 0 < length p
+not-nothing p x e n =
+    split (eqb (length p) 0) (λ z. absurd (n (sym e ∙ empty p (eqb-true (length p) 0 z)))) (λ z. not-empty p z)
+
+-- an error has the packet's own first byte
+pub error-first : (p : List ℕ) (f n : ℕ) → readOf p ≡ Error f n → f ≡ first p
+unfolding saidOf
+error-first p f n e = let x = rw e at (first-said p (not-nothing p (Error f n) e (λ z. let y : _≡_ {A = ℕ} 0 1 = cc in omega arith))) in cc
+
+-- so has an acknowledgement
+pub acknowledgement-first : (p : List ℕ) (f : ℕ) (one : Bool) → readOf p ≡ Acknowledgement f one → f ≡ first p
+unfolding saidOf
+acknowledgement-first p f one e = let x = rw e at (first-said p (not-nothing p (Acknowledgement f one) e (λ z. let y : _≡_ {A = ℕ} 0 1 = cc in omega arith))) in cc
+
+-- and a command's packet begins with its code
+pub asked-first : (p : List ℕ) (c : Command) → readOf p ≡ Asked c → rowOf c .code ≡ first p
+unfolding saidOf
+asked-first p c e = let x = rw e at (first-said p (not-nothing p (Asked c) e (λ z. let y : _≡_ {A = ℕ} 0 1 = cc in omega arith))) in cc
+
+-- ---- numbers
+
+-- reading what was written gives it back: n bytes, high byte first
+pub written-number : (n x : ℕ) → x < 256 ^ n → numberOf (highFirst n x) ≡ x
+written-number = number-back
+
+-- and a signed number of n + 1 bytes
+pub written-signed : (n : ℕ) (v : ℤ) → mag v < 256 ^ suc n / 2 → signedOf (suc n) (unsignedOf (suc n) v) ≡ v
+written-signed = signed-back
+
+-- ---- answers
+
+-- an answer has four bytes and its body
+pub length-of-answer : (f s : ℕ) (body : List ℕ) → length (answerOf f s body) ≡ 4 + length body
+length-of-answer = answer-length
+
+-- so the five have as many as document 01 says
+pub error-length : (f n : ℕ) → length (errorAnswer f n) ≡ 5
+unfolding errorAnswer
+error-length f n = answer-length f 0x09 (n ∷ [])
+
+pub done-length : (f : ℕ) → length (doneAnswer f) ≡ 5
+unfolding doneAnswer
+done-length f = answer-length f 0x01 (0x7E ∷ [])
+
+pub status-length : (f : ℕ) (r : Report) → length (r .ids) ≡ 8 → length (statusAnswer f r) ≡ 22
+unfolding statusAnswer
+status-length f r e = answer-length f 0x01 (statusBody r) ∙ ap (λ (n : ℕ). 4 + n) (status-body-length r e)
+
+pub value-length : (f id : ℕ) (v : ℤ) → length (valueAnswer f id v) ≡ 9
+unfolding valueAnswer
+value-length f id v = answer-length f 0x01 (valueBody id v) ∙ ap (λ (n : ℕ). 4 + n) (value-body-length id v)
+
+pub data-length : (f : ℕ) (block : List ℕ) → length block ≡ 256 → length (dataAnswer f block) ≡ 260
+unfolding dataAnswer
+data-length f block e = answer-length f 0x01 block ∙ ap (λ (n : ℕ). 4 + n) e
+
+-- and those lengths stand in the packet table: of a type 1 command that is done, and of each type 2 command
+pub done-listed : (c : Command) → rowOf c .kind ≡ 1 → (f : ℕ) → length (doneAnswer f) ≡ rowOf c .answer
+unfolding rowOf placeOf
+done-listed (Initialise g) k f = done-length f
+done-listed (Update g) k f = done-length f
+done-listed (Write id v) k f = done-length f
+done-listed Shutdown k f = done-length f
+done-listed Status k f = absurd (omega arith)
+done-listed (Read id) k f = absurd (omega arith)
+done-listed Priority k f = absurd (omega arith)
+done-listed Data k f = absurd (omega arith)
+
+pub status-listed : (f : ℕ) (r : Report) → length (r .ids) ≡ 8 → length (statusAnswer f r) ≡ rowOf Status .answer
+unfolding rowOf placeOf
+status-listed = status-length
+
+pub value-listed : (f id : ℕ) (v : ℤ) → length (valueAnswer f id v) ≡ rowOf (Read id) .answer
+unfolding rowOf placeOf
+value-listed = value-length
+
+pub data-listed : (c : Command) → (c ≡ Priority) ⊎ (c ≡ Data) → (f : ℕ) (block : List ℕ) → length block ≡ 256
+    → length (dataAnswer f block) ≡ rowOf c .answer
+unfolding rowOf placeOf
+data-listed c w f block e =
+    ⊎-elim (λ h. rw h (data-length f block e)) (λ h. rw h (data-length f block e)) w
+
+-- an answer's last two bytes are the CRC of the rest
+pub last-two : (f s : ℕ) (body : List ℕ)
+    → drop (length (answerOf f s body) - 2) (answerOf f s body) ≡ highFirst 2 (crcOf (take (length (answerOf f s body) - 2) (answerOf f s body)))
+unfolding answerOf
+last-two f s body =
+    last-of (f ∷ s ∷ body) ∙ ap (λ (l : List ℕ). highFirst 2 (crcOf l)) (sym (rest-of (f ∷ s ∷ body)))
+
+-- so whoever gets it finds its CRC right
+pub answer-right : (f s : ℕ) (body : List ℕ) → crcRight (answerOf f s body) ≡ true
+unfolding answerOf
+answer-right f s body = closed-right (f ∷ s ∷ body)
+
+-- an answer of the done or error form whose first byte is 0x90 to 0x9F is itself read as an acknowledgement
+pub done-acknowledges : (f : ℕ) → 0x90 ≤ f → f ≤ 0x9F → readOf (doneAnswer f) ≡ Acknowledgement f true
+done-acknowledges = done-taken
+
+pub error-acknowledges : (f n : ℕ) → 0x90 ≤ f → f ≤ 0x9F → readOf (errorAnswer f n) ≡ Acknowledgement f false
+error-acknowledges = error-taken
+
+-- ---- commands
+
+-- the bytes of a command that can be sent are read as that command
+pub sent-is-read : (c : Command) → Sendable c → readOf (bytesOf c) ≡ Asked c
+sent-is-read = sent
+
+-- but a Read of id 0x7E cannot be sent: its bytes are an acknowledgement
+pub read-126 : readOf (bytesOf (Read 0x7E)) ≡ Acknowledgement 0x94 true
+unfolding bytesOf bodyOf rowOf placeOf doneAnswer
+read-126 = done-taken 0x94 (omega arith) (omega arith)
+
+-- a command's bytes are as many as the table says
+pub bytes-listed : (c : Command) → length (bytesOf c) ≡ rowOf c .bytes
+unfolding bytesOf bodyOf valueBody rowOf placeOf answerOf closed fieldBytes highFirst
+bytes-listed (Initialise f) = refl
+bytes-listed Status = refl
+bytes-listed (Update f) = refl
+bytes-listed (Write id v) = refl
+bytes-listed (Read id) = refl
+bytes-listed Priority = refl
+bytes-listed Data = refl
+bytes-listed Shutdown = refl
+
+-- a command's code is a code, and its row is found by it
+pub code-listed : (c : Command) → (isCode (rowOf c .code) ≡ true) × (rowAt (rowOf c .code) ≡ rowOf c)
+unfolding rowOf placeOf isCode listedIn rowAt findIn
+code-listed (Initialise f) = (refl, refl)
+code-listed Status = (refl, refl)
+code-listed (Update f) = (refl, refl)
+code-listed (Write id v) = (refl, refl)
+code-listed (Read id) = (refl, refl)
+code-listed Priority = (refl, refl)
+code-listed Data = (refl, refl)
+code-listed Shutdown = (refl, refl)
+
+-- ---- bounds
+
+-- fields within their bounds, as facts
+pub record Within (f : Fields) : Type 0 where
+  pub mode : f .mode ≤ 3
+  pub milliseconds : f .milliseconds ≤ 999
+  pub priority : f .priorityremaining ≤ f .prioritylimit
+  pub memory : f .memoryremaining ≤ f .memorylimit
+  pub least : 1 ≤ f .poll
+  pub most : f .poll ≤ 60000
+
+both : (a b : Bool) → (a && b) ≡ true → (a ≡ true) × (b ≡ true)
+both true b h = (refl, h)
+both false b h = let z : _≡_ {A = ℕ} 0 1 = cc in absurd (omega arith)
+
+pub bounded-within : (f : Fields) → fieldsBounded f ≡ true → Within f
+unfolding fieldsBounded
+bounded-within f h =
+    let a = leb (f .mode) 3 in
+    let b = leb (f .milliseconds) 999 in
+    let c = leb (f .priorityremaining) (f .prioritylimit) in
+    let d = leb (f .memoryremaining) (f .memorylimit) in
+    let e = leb 1 (f .poll) in
+    let five = both (a && b && c && d && e) (leb (f .poll) 60000) h in
+    let four = both (a && b && c && d) e (five .0) in
+    let three = both (a && b && c) d (four .0) in
+    let two = both (a && b) c (three .0) in
+    let one = both a b (two .0) in
+    record {
+      mode = leb-true (f .mode) 3 (one .0);
+      milliseconds = leb-true (f .milliseconds) 999 (one .1);
+      priority = leb-true (f .priorityremaining) (f .prioritylimit) (two .1);
+      memory = leb-true (f .memoryremaining) (f .memorylimit) (three .1);
+      least = leb-true 1 (f .poll) (four .1);
+      most = leb-true (f .poll) 60000 (five .1);
+    }
+
+pub within-bounded : (f : Fields) → Within f → fieldsBounded f ≡ true
+unfolding fieldsBounded
+within-bounded f w =
+    simp (le-leb (f .mode) 3 (w .mode), le-leb (f .milliseconds) 999 (w .milliseconds), le-leb (f .priorityremaining) (f .prioritylimit) (w .priority), le-leb (f .memoryremaining) (f .memorylimit) (w .memory), le-leb 1 (f .poll) (w .least), le-leb (f .poll) 60000 (w .most))

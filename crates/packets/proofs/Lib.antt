@@ -1,0 +1,12 @@
+pub mod Digits
+pub mod Complement
+pub mod Stores
+pub mod Rows
+pub mod Checks
+pub mod Room
+pub mod Bodies
+pub mod Said
+pub mod First
+pub mod Sent
+pub mod Laws
+pub mod Shown

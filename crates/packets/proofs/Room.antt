@@ -1,0 +1,44 @@
+-- The room while an answer is written: two bytes, the body into the part from byte 2 on, the CRC behind it. One law serves every answer.
+-- Assumes nothing.
+use Prim.Native.Nat.{ℕ, _+_, _≤_, _-_}
+use native.Mathlib.Omega.{arith}
+use native.Mathlib.Nat.{zero-add}
+use mathlib.Core.Path.{_≡_, _∙_}
+use mathlib.Core.List.{List, [], _∷_, _++_}
+use lib.ListN.{length, take, drop, length-append}
+use lib.Seq.{sets, sets-eq, take-append-seam}
+use Rattle.crc.specs.Crc.{crcOf}
+use Rattle.packets.specs.Numbers.{highFirst}
+use Rattle.packets.specs.Answers.{closed, answerOf, Written}
+use Rattle.packets.proofs.Stores.{sets-append, lent}
+use Rattle.packets.proofs.Digits.{high-first-length}
+
+-- the CRC of what stands there, written behind it
+closed-there : (room head : List ℕ) (end : ℕ) → end ≡ length head → end ≤ length room
+    → sets (sets room 0 head) end (highFirst 2 (crcOf (take end (sets room 0 head)))) ≡ sets room 0 (closed head)
+unfolding closed
+closed-there room head end e h =
+    let whole : sets room 0 head ≡ head ++ drop (0 + length head) room = sets-eq head room 0 (omega arith) in
+    let there : take end (sets room 0 head) ≡ head = rw (whole, e, take-append-seam) in
+    rw (there, sets-append room 0 head, zero-add, e)
+
+-- an answer has four bytes and its body
+pub answer-length : (f s : ℕ) (body : List ℕ) → length (answerOf f s body) ≡ 4 + length body
+unfolding answerOf closed
+answer-length f s body =
+    length-append (f ∷ s ∷ body) (highFirst 2 (crcOf (f ∷ s ∷ body)))
+    ∙ omega (arith, high-first-length 2 (crcOf (f ∷ s ∷ body)))
+
+-- every answer, once it is written. two is the room with its first two bytes, ys its part from byte 2 on with the body
+pub answered : (room : List ℕ) (f s : ℕ) (body two ys room′ : List ℕ) (k end n : ℕ)
+    → two ≡ sets room 0 (f ∷ s ∷ []) → k ≡ length two - 2 → end ≡ 2 + length body → end ≤ length room
+    → ys ≡ sets (take k (drop 2 two)) 0 body
+    → (room′ ≡ sets (take 2 two ++ (ys ++ drop k (drop 2 two))) end (highFirst 2 (crcOf (take end (take 2 two ++ (ys ++ drop k (drop 2 two)))))))
+    × (n ≡ end + 2)
+    → Written (answerOf f s body) room room′ n
+unfolding answerOf
+answered room f s body two ys room′ k end n et ek ee h y c =
+    record {
+      room = c .0 ∙ rw (lent two ys body 2 k ek y, et) (closed-there room (f ∷ s ∷ body) end (omega arith) h);
+      count = omega (arith, c .1, answer-length f s body);
+    }

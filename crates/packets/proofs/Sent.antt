@@ -1,0 +1,108 @@
+-- What was closed by its CRC has a right CRC, and a command's bytes are read as that command.
+-- Assumes nothing.
+use Prim.Native.Nat.{ℕ, _+_, _*_, _/_, _%_, _≤_, _-_}
+use native.Mathlib.Omega.{arith}
+use mathlib.Core.Path.{_≡_, refl, sym, ap, _∙_}
+use mathlib.Core.List.{List, [], _∷_, _++_}
+use mathlib.Core.Bool.{true, false}
+use borrow.Author.Tests.{le-leb, eq-eqb, ne-eqb}
+use lib.ListN.{length, take, drop, length-append}
+use lib.Seq.{take-at, drop-at, take-all}
+use Rattle.crc.specs.Crc.{crcOf}
+use Rattle.crc.proofs.Laws.{below}
+use Rattle.packets.specs.declared.Fields.{Fields}
+use Rattle.packets.specs.declared.Command.{Command}
+use Rattle.packets.specs.declared.Command.the-variants.{Initialise, Status, Update, Write, Read, Priority, Data, Shutdown}
+use Rattle.packets.specs.declared.Parsed.the-variants.{Acknowledgement, Asked}
+use Rattle.packets.specs.Numbers.{highFirst, numberOf, numberAt, signedOf, unsignedOf}
+use Rattle.packets.specs.Commands.{fieldsIn, findIn, listedIn, rowAt, isCode, placeOf, rowOf}
+use Rattle.packets.specs.Reading.{first, second, crcRight, acknowledges, readOf}
+use Rattle.packets.specs.Answers.{closed, answerOf, errorAnswer, doneAnswer, valueBody, fieldBytes, bodyOf, bytesOf, FieldsFit, Sendable}
+use Rattle.packets.proofs.Digits.{high-first-length, number-back}
+use Rattle.packets.proofs.Complement.{signed-back, unsigned-below}
+use Rattle.packets.proofs.Checks.{acknowledged, asked}
+
+-- the last two bytes of what was closed, and the rest
+pub rest-of : (head : List ℕ) → take (length (closed head) - 2) (closed head) ≡ head
+unfolding closed
+rest-of head =
+    let n : length (head ++ highFirst 2 (crcOf head)) ≡ length head + 2 =
+    length-append head (highFirst 2 (crcOf head)) ∙ ap (λ (k : ℕ). length head + k) (high-first-length 2 (crcOf head)) in
+    take-at head (highFirst 2 (crcOf head)) (length (head ++ highFirst 2 (crcOf head)) - 2) (omega arith)
+
+pub last-of : (head : List ℕ) → drop (length (closed head) - 2) (closed head) ≡ highFirst 2 (crcOf head)
+unfolding closed
+last-of head =
+    let n : length (head ++ highFirst 2 (crcOf head)) ≡ length head + 2 =
+    length-append head (highFirst 2 (crcOf head)) ∙ ap (λ (k : ℕ). length head + k) (high-first-length 2 (crcOf head)) in
+    drop-at head (highFirst 2 (crcOf head)) (length (head ++ highFirst 2 (crcOf head)) - 2) (omega arith)
+
+pub closed-right : (head : List ℕ) → crcRight (closed head) ≡ true
+unfolding crcRight numberAt
+closed-right head =
+    let short : length (highFirst 2 (crcOf head)) ≤ 2 = omega (arith, high-first-length 2 (crcOf head)) in
+    eq-eqb _ _ (
+    ap crcOf (rest-of head)
+    ∙ sym (
+    ap (λ (l : List ℕ). numberOf (take 2 l)) (last-of head)
+    ∙ ap numberOf (take-all 2 (highFirst 2 (crcOf head)) short)
+    ∙ number-back 2 (crcOf head) (below head)
+    )
+    )
+
+-- the two answers of five bytes, whose first byte could be a code
+pub done-taken : (f : ℕ) → 0x90 ≤ f → f ≤ 0x9F → readOf (doneAnswer f) ≡ Acknowledgement f true
+unfolding doneAnswer answerOf closed highFirst acknowledges
+done-taken f h k =
+    let right = closed-right (f ∷ 0x01 ∷ 0x7E ∷ []) in
+    acknowledged (doneAnswer f) (omega arith) right (simp (right, le-leb 0x90 f h, le-leb f 0x9F k))
+
+pub error-taken : (f n : ℕ) → 0x90 ≤ f → f ≤ 0x9F → readOf (errorAnswer f n) ≡ Acknowledgement f false
+unfolding errorAnswer answerOf closed highFirst acknowledges
+error-taken f n h k =
+    let right = closed-right (f ∷ 0x09 ∷ n ∷ []) in
+    acknowledged (errorAnswer f n) (omega arith) right (simp (right, le-leb 0x90 f h, le-leb f 0x9F k))
+
+-- fields that fit come back from the bytes that carry them
+fields-back : (code : ℕ) (f : Fields) → FieldsFit f → fieldsIn (answerOf code 0x01 (fieldBytes f)) ≡ f
+unfolding fieldsIn numberAt answerOf closed fieldBytes highFirst
+fields-back code f h =
+    let time : ℕ = f .seconds * 1024 + f .milliseconds in
+    let whole : numberOf (highFirst 4 time) ≡ time = number-back 4 time (omega arith) in
+    let seconds : numberOf (highFirst 4 time) / 1024 ≡ f .seconds = ap (λ (t : ℕ). t / 1024) whole ∙ omega arith in
+    let milliseconds : numberOf (highFirst 4 time) % 1024 ≡ f .milliseconds = ap (λ (t : ℕ). t % 1024) whole ∙ omega arith in
+    λ i.
+    record {
+      mode = f .mode;
+      flags = number-back 2 (f .flags) (h .flags) i;
+      seconds = seconds i;
+      milliseconds = milliseconds i;
+      prioritylimit = number-back 2 (f .prioritylimit) (h .prioritylimit) i;
+      priorityremaining = number-back 2 (f .priorityremaining) (h .priorityremaining) i;
+      memorylimit = number-back 4 (f .memorylimit) (h .memorylimit) i;
+      memoryremaining = number-back 4 (f .memoryremaining) (h .memoryremaining) i;
+      poll = number-back 2 (f .poll) (h .poll) i;
+    }
+
+-- a command's bytes pass every check, if they have not the acknowledgement form and its row gives the command back
+passes : (c : Command) → 4 ≤ length (bytesOf c) → acknowledges (bytesOf c) ≡ false
+    → isCode (first (bytesOf c)) ≡ true → second (bytesOf c) ≡ 0x01 → length (bytesOf c) ≡ rowAt (first (bytesOf c)) .bytes
+    → rowAt (first (bytesOf c)) .command (bytesOf c) ≡ c → readOf (bytesOf c) ≡ Asked c
+unfolding bytesOf answerOf
+passes c four form k s l e =
+    asked (bytesOf c) four (closed-right (rowOf c .code ∷ 0x01 ∷ bodyOf c)) form k s l ∙ ap Asked e
+
+-- each command that can be sent is read as it was sent
+pub sent : (c : Command) → Sendable c → readOf (bytesOf c) ≡ Asked c
+unfolding bytesOf rowOf placeOf bodyOf valueBody answerOf closed fieldBytes highFirst acknowledges isCode listedIn rowAt findIn numberAt
+sent (Initialise f) h = passes (Initialise f) (omega arith) refl refl refl refl (ap Initialise (fields-back 0x90 f h))
+sent Status h = passes Status (omega arith) refl refl refl refl refl
+sent (Update f) h = passes (Update f) (omega arith) refl refl refl refl (ap Update (fields-back 0x92 f h))
+sent (Write id v) h =
+    passes (Write id v) (omega arith) refl refl refl refl
+    (ap (λ (u : ℕ). Write id (signedOf 4 u)) (number-back 4 (unsignedOf 4 v) (unsigned-below 3 v h)) ∙ ap (Write id) (signed-back 3 v h))
+sent (Read id) h =
+    passes (Read id) (omega arith) (simp (closed-right (0x94 ∷ 0x01 ∷ id ∷ []), ne-eqb id 0x7E h)) refl refl refl refl
+sent Priority h = passes Priority (omega arith) refl refl refl refl refl
+sent Data h = passes Data (omega arith) refl refl refl refl refl
+sent Shutdown h = passes Shutdown (omega arith) refl refl refl refl refl

@@ -1,0 +1,46 @@
+-- `packets::numbers::four_at` meets its contract: two bytes, and two behind them.
+-- Assumes nothing.
+use native.Mathlib.Omega.{arith}
+use Rattle.packets.proofs.Digits.{number-parts}
+use borrow.Author.Needs.{needs}
+use Rattle.packets.proofs.numbers.four_at.Statement.{statement}
+use Rattle.packets.proofs.numbers.four_at.Tie as tie
+
+two-at-requires : tie.Need-two-at-requires
+two-at-requires c κs = search needs
+
+cast-result : tie.Need-cast-result
+cast-result c = search needs
+
+mul-result : tie.Need-mul-result
+mul-result c = search needs
+
+add-two-at : tie.Need-add-two-at
+add-two-at c = search needs
+
+two-at-requires-2 : tie.Need-two-at-requires-2
+two-at-requires-2 c κs = search needs
+
+cast-result-2 : tie.Need-cast-result-2
+cast-result-2 c = search needs
+
+add-result : tie.Need-add-result
+add-result c = search needs
+
+returns : tie.Need-returns
+returns c =
+    let a = c .before .before .before .args in
+    cc (number-parts (a .s .now) (a .at) 2 2 (omega arith))
+
+pub four-at-spec : {M : Type 1} → statement M
+four-at-spec =
+    tie.close
+    (tie.spec
+    two-at-requires
+    cast-result
+    mul-result
+    add-two-at
+    two-at-requires-2
+    cast-result-2
+    add-result
+    returns)

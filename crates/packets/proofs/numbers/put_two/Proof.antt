@@ -1,0 +1,33 @@
+-- `packets::numbers::put_two` meets its contract: two stores, each within the slice.
+-- Assumes nothing.
+use native.Mathlib.Omega.{arith}
+use lib.ListN.{length-set}
+use Rattle.packets.proofs.Digits.{two-stored}
+use borrow.Author.Needs.{needs}
+use Rattle.packets.proofs.numbers.put_two.Statement.{statement}
+use Rattle.packets.proofs.numbers.put_two.Tie as tie
+
+cast-s : tie.Need-cast-s
+cast-s c = search needs
+
+slice-write-s : tie.Need-slice-write-s
+slice-write-s c = search needs
+
+cast-s-2 : tie.Need-cast-s-2
+cast-s-2 c = search needs
+
+add-s : tie.Need-add-s
+add-s c = search needs
+
+slice-write-s-2 : tie.Need-slice-write-s-2
+slice-write-s-2 c = simp length-set (omega arith)
+
+same-length : tie.Need-same-length
+same-length c = search needs
+
+returns : tie.Need-returns
+returns c = two-stored (c .args .s .now) (c .args .at) (c .args .x)
+
+pub put-two-spec : {M : Type 1} → statement M
+put-two-spec =
+    tie.close (tie.spec cast-s slice-write-s cast-s-2 add-s slice-write-s-2 same-length returns)

@@ -1,0 +1,92 @@
+-- `packets::reading::command_in` meets its contract: the command of the code's row.
+-- Assumes nothing.
+use Prim.Native.Nat.{ℕ}
+use native.Mathlib.Omega.{arith}
+use mathlib.Core.Path.{_≡_, ap, _∙_}
+use mir.Syntax.{w32}
+use mir.Val.{toZ, ofZ}
+use lib.ListN.{length}
+use Rattle.packets.specs.Commands.{rowAt, findIn}
+use Rattle.packets.proofs.Rows.{last-code}
+use borrow.Author.Needs.{needs}
+use Rattle.packets.proofs.reading.command_in.Statement.{statement}
+use Rattle.packets.proofs.reading.command_in.Tie as tie
+
+fields-in-requires : tie.Need-fields-in-requires
+unfolding rowAt findIn
+fields-in-requires c κs = let long : length (c .before .before .args .packet .now) ≡ 25 = c .before .before .pre .1 ∙ ap (λ (k : ℕ). rowAt k .bytes) (c .match .keys1) in omega arith
+
+fields-in-requires-2 : tie.Need-fields-in-requires-2
+unfolding rowAt findIn
+fields-in-requires-2 c κs = let long : length (c .before .before .args .packet .now) ≡ 25 = c .before .before .pre .1 ∙ ap (λ (k : ℕ). rowAt k .bytes) (c .match .keys3) in omega arith
+
+shared-slice-read-t7 : tie.Need-shared-slice-read-t7
+unfolding rowAt findIn
+shared-slice-read-t7 c = let long : length (c .before .before .before .args .packet .now) ≡ 9 = c .before .before .before .pre .1 ∙ ap (λ (k : ℕ). rowAt k .bytes) (c .before .match .keys4) in omega arith
+
+four-at-requires : tie.Need-four-at-requires
+unfolding rowAt findIn
+four-at-requires c κs = let long : length (c .before .before .before .args .packet .now) ≡ 9 = c .before .before .before .pre .1 ∙ ap (λ (k : ℕ). rowAt k .bytes) (c .before .match .keys4) in omega arith
+
+signed-requires : tie.Need-signed-requires
+signed-requires c κs = search needs
+
+shared-slice-read-t11 : tie.Need-shared-slice-read-t11
+unfolding rowAt findIn
+shared-slice-read-t11 c = let long : length (c .before .before .before .args .packet .now) ≡ 5 = c .before .before .before .pre .1 ∙ ap (λ (k : ℕ). rowAt k .bytes) (c .before .match .keys5) in omega arith
+
+returns : tie.Need-returns
+unfolding rowAt findIn
+returns c = rw (c .before .match .keys1) (cc)
+
+returns-2 : tie.Need-returns-2
+unfolding rowAt findIn
+returns-2 c = rw (c .match .keys2)
+
+returns-3 : tie.Need-returns-3
+unfolding rowAt findIn
+returns-3 c = rw (c .before .match .keys3) (cc)
+
+returns-4 : tie.Need-returns-4
+unfolding rowAt findIn
+returns-4 c =
+    let back : toZ w32 (ofZ w32 (c .signed .result)) ≡ c .signed .result = search needs in
+    rw (c .before .before .before .match .keys4) (cc)
+
+returns-5 : tie.Need-returns-5
+unfolding rowAt findIn
+returns-5 c = rw (c .before .match .keys5)
+
+returns-6 : tie.Need-returns-6
+unfolding rowAt findIn
+returns-6 c = rw (c .match .keys6)
+
+returns-7 : tie.Need-returns-7
+unfolding rowAt findIn
+returns-7 c = rw (c .match .keys7)
+
+returns-8 : tie.Need-returns-8
+unfolding rowAt findIn
+returns-8 c =
+    let rest = c .match .rest in
+    let a = c .before .before in
+    rw (last-code (a .args .code) (a .pre .0) (rest .0 .0 .0 .0 .0 .0 .1) (rest .0 .0 .0 .0 .0 .1) (rest .0 .0 .0 .0 .1) (rest .0 .0 .0 .1) (rest .0 .0 .1) (rest .0 .1) (rest .1))
+
+pub command-in-spec : {M : Type 1} → statement M
+command-in-spec =
+    tie.close
+    (tie.spec
+    fields-in-requires
+    fields-in-requires-2
+    shared-slice-read-t7
+    four-at-requires
+    signed-requires
+    shared-slice-read-t11
+    returns
+    returns-2
+    returns-3
+    returns-4
+    returns-5
+    returns-6
+    returns-7
+    returns-8)

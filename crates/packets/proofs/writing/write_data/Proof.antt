@@ -1,0 +1,52 @@
+-- `packets::writing::write_data` meets its contract: the law of every answer, at its body.
+-- Assumes nothing.
+use native.Mathlib.Omega.{arith}
+use mathlib.Core.Path.{refl}
+use Rattle.packets.specs.Answers.{dataAnswer}
+use Rattle.packets.proofs.Room.{answered}
+use borrow.Author.Needs.{needs}
+use Rattle.packets.proofs.writing.write_data.Statement.{statement}
+use Rattle.packets.proofs.writing.write_data.Tie as tie
+
+head-requires : tie.Need-head-requires
+head-requires c κs = search needs
+
+sub-copy : tie.Need-sub-copy
+sub-copy c = search needs
+
+part-copy-start : tie.Need-part-copy-start
+part-copy-start c = search needs
+
+part-copy-end : tie.Need-part-copy-end
+part-copy-end c = search needs
+
+copy-requires : tie.Need-copy-requires
+copy-requires c κs = search needs
+
+close-requires : tie.Need-close-requires
+close-requires c κs = search needs
+
+same-length : tie.Need-same-length
+same-length c = search needs
+
+returns : tie.Need-returns
+unfolding dataAnswer
+returns c =
+    let closing = c .before .before in
+    let body = closing .before .before .before .before in
+    let heading = body .before .before .before .before in
+    let a = heading .before .before .before .before .args in
+    answered (a .room .now) (a .first) 0x01 (a .block .now) _ _ _ _ 258 _ (heading .head .ensures) refl (omega arith) (omega arith) (body .copy .ensures) (closing .close .ensures)
+
+pub write-data-spec : {M : Type 1} → statement M
+write-data-spec =
+    tie.close
+    (tie.spec
+    head-requires
+    sub-copy
+    part-copy-start
+    part-copy-end
+    copy-requires
+    close-requires
+    same-length
+    returns)

@@ -1,0 +1,58 @@
+-- `packets::writing::write_status` meets its contract: the law of every answer, at its body.
+-- Assumes nothing.
+use native.Mathlib.Omega.{arith}
+use mathlib.Core.Path.{_≡_, refl}
+use lib.ListN.{length}
+use Rattle.packets.specs.Answers.{statusBody, statusAnswer}
+use Rattle.packets.proofs.Bodies.{status-body-length}
+use Rattle.packets.proofs.Room.{answered}
+use borrow.Author.Needs.{needs}
+use Rattle.packets.proofs.writing.write_status.Statement.{statement}
+use Rattle.packets.proofs.writing.write_status.Tie as tie
+
+-- a report has eight ids
+eight : (c : tie.Start) → length (c .args .report .ids) ≡ 8
+eight c = search needs
+
+head-requires : tie.Need-head-requires
+head-requires c κs = search needs
+
+sub-status-body : tie.Need-sub-status-body
+sub-status-body c = search needs
+
+part-status-body-start : tie.Need-part-status-body-start
+part-status-body-start c = search needs
+
+part-status-body-end : tie.Need-part-status-body-end
+part-status-body-end c = search needs
+
+status-body-requires : tie.Need-status-body-requires
+status-body-requires c κs = search needs
+
+close-requires : tie.Need-close-requires
+close-requires c κs = search needs
+
+same-length : tie.Need-same-length
+same-length c = search needs
+
+returns : tie.Need-returns
+unfolding statusAnswer
+returns c =
+    let closing = c .before .before in
+    let body = closing .before .before .before .before in
+    let heading = body .before .before .before .before in
+    let a = heading .before .before .before .args in
+    answered (a .room .now) (a .first) 0x01 (statusBody (a .report)) _ _ _ _ 20 _ (heading .head .ensures) refl (omega (arith, status-body-length (a .report) (eight (heading .before .before .before)))) (omega arith) (body .status-body .ensures) (closing .close .ensures)
+
+pub write-status-spec : {M : Type 1} → statement M
+write-status-spec =
+    tie.close
+    (tie.spec
+    head-requires
+    sub-status-body
+    part-status-body-start
+    part-status-body-end
+    status-body-requires
+    close-requires
+    same-length
+    returns)

@@ -1,0 +1,56 @@
+-- `packets::writing::write_value` meets its contract: the law of every answer, at its body.
+-- Assumes nothing.
+use native.Mathlib.Omega.{arith}
+use mathlib.Core.Path.{_≡_, refl}
+use mir.Syntax.{w32}
+use mir.Val.{toZ, ofZ}
+use Rattle.packets.specs.Answers.{valueBody, valueAnswer}
+use Rattle.packets.proofs.Bodies.{value-body-length}
+use Rattle.packets.proofs.Room.{answered}
+use borrow.Author.Needs.{needs}
+use Rattle.packets.proofs.writing.write_value.Statement.{statement}
+use Rattle.packets.proofs.writing.write_value.Tie as tie
+
+head-requires : tie.Need-head-requires
+head-requires c κs = search needs
+
+sub-value-body : tie.Need-sub-value-body
+sub-value-body c = search needs
+
+part-value-body-start : tie.Need-part-value-body-start
+part-value-body-start c = search needs
+
+part-value-body-end : tie.Need-part-value-body-end
+part-value-body-end c = search needs
+
+value-body-requires : tie.Need-value-body-requires
+value-body-requires c κs = search needs
+
+close-requires : tie.Need-close-requires
+close-requires c κs = search needs
+
+same-length : tie.Need-same-length
+same-length c = search needs
+
+returns : tie.Need-returns
+unfolding valueAnswer
+returns c =
+    let closing = c .before .before in
+    let body = closing .before .before .before .before in
+    let heading = body .before .before .before .before in
+    let a = heading .before .before .before .args in
+    let back : toZ w32 (ofZ w32 (a .value)) ≡ a .value = search needs in
+    answered (a .room .now) (a .first) 0x01 (valueBody (a .id) (a .value)) _ _ _ _ 7 _ (heading .head .ensures) refl (omega (arith, value-body-length (a .id) (a .value))) (omega arith) (rw back at (body .value-body .ensures)) (closing .close .ensures)
+
+pub write-value-spec : {M : Type 1} → statement M
+write-value-spec =
+    tie.close
+    (tie.spec
+    head-requires
+    sub-value-body
+    part-value-body-start
+    part-value-body-end
+    value-body-requires
+    close-requires
+    same-length
+    returns)

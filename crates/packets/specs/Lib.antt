@@ -1,0 +1,4 @@
+pub mod Numbers
+pub mod Commands
+pub mod Reading
+pub mod Answers

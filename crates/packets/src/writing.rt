@@ -1,0 +1,122 @@
+// An answer is written into the room: its first two bytes, the body into the room's part from byte 2 on, and the CRC of all that.
+use crate::Report;
+use crate::numbers::put_four;
+use crate::numbers::put_one;
+use crate::numbers::put_two;
+use crate::numbers::unsigned;
+ghost use mathlib.Core.Path.{_≡_};
+ghost use mathlib.Core.List.{[], _∷_};
+ghost use Prim.Native.Nat.{_+_, _≤_};
+ghost use lib.ListN.{length, take};
+ghost use lib.Seq.{sets};
+ghost use Rattle.crc.specs.Crc.{crcOf};
+ghost use Rattle.packets.specs.Numbers.{highFirst};
+ghost use Rattle.packets.specs.Answers.{Written, answerOf, errorAnswer, doneAnswer, statusBody, statusAnswer, valueBody, valueAnswer, dataAnswer};
+
+// The first and the second byte.
+fn head(room: &mut [u8], first: u8, second: u8)
+    requires { ⌜ 2 ≤ length (now room) ⌝ }
+    ensures { λ _. ⌜ now (room .exit) ≡ sets (now (room .entry)) 0 (first ∷ second ∷ []) ⌝ }
+{
+    room[0] = first;
+    room[1] = second;
+}
+
+// The CRC of the first `end` bytes goes behind them; the answer's length.
+fn close(room: &mut [u8], end: usize) -> usize
+    requires { ⌜ end + 2 ≤ length (now room) ⌝ }
+    ensures { λ r. ⌜ (now (room .exit) ≡ sets (now (room .entry)) end (highFirst 2 (crcOf (take end (now (room .entry)))))) × (r ≡ end + 2) ⌝ }
+{
+    let crc = crc::crc_of(&room[..end]);
+    put_two(room, end, crc);
+    end + 2
+}
+
+// All of a block, or of a list of ids, is copied from `at` on.
+fn copy(from: &[u8], to: &mut [u8], at: usize)
+    requires { ⌜ at + length (now from) ≤ length (now to) ⌝ }
+    ensures { λ _. ⌜ now (to .exit) ≡ sets (now (to .entry)) at (now (from .entry)) ⌝ }
+{
+    let mut i = 0;
+    while i < from.len() {
+        to[at + i] = from[i];
+        i += 1;
+    }
+}
+
+fn status_body(body: &mut [u8], report: Report)
+    requires { ⌜ 18 ≤ length (now body) ⌝ }
+    ensures { λ _. ⌜ now (body .exit) ≡ sets (now (body .entry)) 0 (statusBody report) ⌝ }
+{
+    put_one(body, 0, report.mode);
+    put_two(body, 1, report.flags);
+    put_two(body, 3, report.priority);
+    put_four(body, 5, report.ordinary);
+    put_one(body, 9, 0);
+    let ids = report.ids;
+    copy(&ids, body, 10);
+}
+
+fn value_body(body: &mut [u8], id: u8, value: i32)
+    requires { ⌜ 5 ≤ length (now body) ⌝ }
+    ensures { λ _. ⌜ now (body .exit) ≡ sets (now (body .entry)) 0 (valueBody id value) ⌝ }
+{
+    put_one(body, 0, id);
+    put_four(body, 1, unsigned(value));
+}
+
+// The answers whose body is one byte.
+fn short(room: &mut [u8], first: u8, second: u8, third: u8) -> usize
+    requires { ⌜ 260 ≤ length (now room) ⌝ }
+    ensures { λ r. ⌜ Written (answerOf first second (third ∷ [])) (now (room .entry)) (now (room .exit)) r ⌝ }
+{
+    head(room, first, second);
+    put_one(&mut room[2..], 0, third);
+    close(room, 3)
+}
+
+// An error's answer.
+pub fn write_error(room: &mut [u8], first: u8, number: u8) -> usize
+    requires { ⌜ 260 ≤ length (now room) ⌝ }
+    ensures { λ r. ⌜ Written (errorAnswer first number) (now (room .entry)) (now (room .exit)) r ⌝ }
+{
+    short(room, first, 0x09, number)
+}
+
+// The answer of a type 1 command that is done.
+pub fn write_done(room: &mut [u8], first: u8) -> usize
+    requires { ⌜ 260 ≤ length (now room) ⌝ }
+    ensures { λ r. ⌜ Written (doneAnswer first) (now (room .entry)) (now (room .exit)) r ⌝ }
+{
+    short(room, first, 0x01, 0x7E)
+}
+
+pub fn write_status(room: &mut [u8], first: u8, report: Report) -> usize
+    requires { ⌜ 260 ≤ length (now room) ⌝ }
+    ensures { λ r. ⌜ Written (statusAnswer first report) (now (room .entry)) (now (room .exit)) r ⌝ }
+{
+    head(room, first, 0x01);
+    status_body(&mut room[2..], report);
+    close(room, 20)
+}
+
+// A parameter's value.
+pub fn write_value(room: &mut [u8], first: u8, id: u8, value: i32) -> usize
+    requires { ⌜ 260 ≤ length (now room) ⌝ }
+    ensures { λ r. ⌜ Written (valueAnswer first id value) (now (room .entry)) (now (room .exit)) r ⌝ }
+{
+    head(room, first, 0x01);
+    value_body(&mut room[2..], id, value);
+    close(room, 7)
+}
+
+// The oldest block of a store.
+pub fn write_data(room: &mut [u8], first: u8, block: &[u8]) -> usize
+    requires { ⌜ 260 ≤ length (now room) ⌝ }
+    requires { ⌜ length (now block) ≡ 256 ⌝ }
+    ensures { λ r. ⌜ Written (dataAnswer first (now (block .entry))) (now (room .entry)) (now (room .exit)) r ⌝ }
+{
+    head(room, first, 0x01);
+    copy(block, &mut room[2..], 0);
+    close(room, 258)
+}

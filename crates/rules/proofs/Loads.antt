@@ -1,0 +1,96 @@
+-- Demand 2: "A table load counts when its last word is in and every check passes, and then changes the addressed words and no other."
+-- Assumes nothing.
+use Prim.Native.Nat.{ℕ, _<_, _≤_}
+use native.Mathlib.Omega.{arith}
+use mathlib.Core.Path.{_≡_, refl, sym, ap, _∙_}
+use mathlib.Core.Bool.{Bool, true, false, not, _||_, cond, false≢true}
+use mathlib.Core.List.{List, map}
+use lib.ListN.{length, getD, drop, length-drop}
+use lib.Seq.{sets, take-all}
+use Rattle.tables.specs.declared.Table.{Table}
+use Rattle.tables.specs.declared.Transfer.the-variants.{Load}
+use Rattle.tables.specs.Tables.{Three, numberOf, sizeOf, wordsOf, withTable}
+use Rattle.tables.specs.Port.{Tabled, tabled, isOpen, dataCount, rightOf, storedIn, writtenOf}
+use Rattle.tables.proofs.Limits.{sound-transfer, LoadIn, load-in}
+use Rattle.tables.proofs.Gathering.{part-keeps, load-taken, load-refused}
+use Rattle.rules.specs.declared.Pod.{Pod}
+use Rattle.rules.specs.State.{withWords, isClosed, restful, soundPod}
+use Rattle.rules.specs.World.{World, Call, dataIn, withPod, step, final}
+use Rattle.rules.specs.Demands.{Fit, LoadWhole, LoadCut}
+use Rattle.rules.proofs.Pick.{split, and-false, or-true}
+use Rattle.rules.proofs.Bounds.{PodIn, in-pod, pod-in}
+use Rattle.rules.proofs.Written.{portOf, laid, Ready, final-written, written-ready}
+use Rattle.rules.proofs.Restarts.{same-tables}
+
+or-false : (a : Bool) → (a || false) ≡ a
+or-false true = refl
+or-false false = refl
+
+-- a pod within its bounds with a transfer open is initialised
+open-on : (p : Pod) → PodIn p → isOpen (p .words .transfer) ≡ true → p .initialised ≡ true
+unfolding restful
+open-on p h o =
+    split (p .initialised) (λ e. e)
+    (λ e. absurd (false≢true (sym (and-false (isClosed (p .exchange))) ∙ rw (e, o) at (h .rest))))
+
+module _ (w : World) (t : Table) (n : ℕ) (xs : List ℕ) (h : Fit w) (opened : w .pod .words .transfer ≡ Load t n 0) where
+  -- an open load finds all in order
+  load-ready : Ready w
+  load-ready =
+      let p = pod-in (w .pod) (h .sound) in
+      record { tables = h .tables; pod = p; on = open-on (w .pod) p (ap isOpen opened) }
+
+  load-bounds : LoadIn n 0
+  load-bounds = load-in t n 0 (rw opened at (sound-transfer (w .pod .words) (load-ready .pod .words)))
+
+  words-written : final w (map dataIn xs) ≡ laid (writtenOf xs (portOf w)) w
+  words-written = final-written xs w load-ready
+
+  module _ (whole : length xs ≡ n) where
+    abbrev right : Bool
+    right = rightOf (sizeOf t) (numberOf t) n xs
+
+    -- the data words are all that follow the three header words
+    data-words : storedIn n xs (wordsOf t (w .tables)) ≡ sets (wordsOf t (w .tables)) (getD xs 1 0) (drop 3 xs)
+    unfolding storedIn
+    data-words = ap (sets (wordsOf t (w .tables)) (getD xs 1 0)) (take-all (dataCount n) (drop 3 xs) (simp length-drop (omega arith)))
+
+    -- judged with its last word
+    whole-load : (final w (map dataIn xs) .tables ≡ cond right (withTable t (storedIn n xs (wordsOf t (w .tables))) (w .tables)) (w .tables))
+        × (final w (map dataIn xs) .pod .words .error ≡ (w .pod .words .error || not right))
+    whole-load =
+        let least = load-bounds .least in
+        let room : n ≤ length (w .pod .words .load) = omega (arith, load-bounds .most, h .load) in
+        split right
+        (λ e.
+        let so = words-written ∙ ap (λ (d : Tabled). laid d w) (load-taken t n (portOf w) opened xs whole least room e) in
+        (rw (so, e, data-words), rw (so, e, or-false (w .pod .words .error))))
+        (λ e.
+        let so = words-written ∙ ap (λ (d : Tabled). laid d w) (load-refused t n (portOf w) opened xs whole least room e) in
+        (rw (so, e), rw (so, e, or-true (w .pod .words .error))))
+
+  -- cut short, it has changed the words of the state alone
+  module _ (part : length xs < n) where
+    abbrev cut : Pod
+    cut = withWords (writtenOf xs (portOf w) .words) (w .pod)
+
+    part-world : final w (map dataIn xs) ≡ withPod cut w
+    part-world = words-written ∙ ap (λ (s : Three). laid (tabled (writtenOf xs (portOf w) .words) s) w) (part-keeps t n (portOf w) opened xs part)
+
+    cut-sound : soundPod cut ≡ true
+    cut-sound = in-pod (written-ready xs w load-ready .pod)
+
+    cut-load : (c : Call) → (final w (map dataIn xs) .tables ≡ w .tables)
+        × (((x : ℕ) → c ≡ dataIn x → ⊥) → step (final w (map dataIn xs)) c .world .tables ≡ step w c .world .tables)
+    cut-load c = (
+      ap (λ (v : World). v .tables) part-world,
+      λ other. ap (λ (v : World). step v c .world .tables) part-world ∙ same-tables w cut (h .sound) cut-sound refl c other,
+    )
+
+-- a whole load: exactly the addressed words, or nothing and message error, over any table, any N and any words
+pub load-whole : LoadWhole
+load-whole w t n xs h opened whole = whole-load w t n xs h opened whole
+
+-- a load cut anywhere, by any call: the tables are as if no word of it had come
+pub load-cut : LoadCut
+load-cut w t n xs c h opened part = cut-load w t n xs h opened part c

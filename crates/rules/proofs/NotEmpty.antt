@@ -1,0 +1,152 @@
+-- The statements are not empty, by computation: what they assume is met, by worlds that differ.
+-- Assumes nothing.
+use Prim.Native.Nat.{ℕ}
+use native.Mathlib.Omega.{arith}
+use mathlib.Core.Path.{_≡_, refl, sym, ap}
+use mathlib.Core.Bool.{true, false, false≢true}
+use mathlib.Core.List.{[], _∷_, map}
+use lib.IntN.{pos}
+use lib.ListN.{getD, replicate}
+use Rattle.blocks.specs.declared.Ring.{Ring}
+use Rattle.blocks.specs.declared.Store.the-variants.{Priority}
+use Rattle.params.specs.declared.Params.{Params}
+use Rattle.packets.specs.declared.Command.{Command}
+use Rattle.packets.specs.declared.Command.the-variants as command
+use Rattle.tables.specs.declared.Table.the-variants.{Five}
+use Rattle.tables.specs.declared.Transfer.the-variants.{Load}
+use Rattle.tables.specs.Tables.{Three, three, numberOf as tables-numberOf, sizeOf, starts}
+use Rattle.rules.specs.State.{withParams, withRing, withPipe}
+use Rattle.rules.specs.Refusals.{Said, refused}
+use Rattle.rules.specs.World.{World, Call, packet as bring, put, command as order, samples, byte, Told, withPod, withTables, powered}
+use Rattle.rules.specs.History.{succeeded}
+use Rattle.rules.specs.Pairs.{Accepts, Asleep}
+use Rattle.rules.specs.Demands.{Fit, damaged}
+use lib.Count.{ones}
+use Rattle.crc.specs.Crc.{poly, leaving, bitIn, bits, run, crcFrom, crcOf}
+use Rattle.crc.specs.Fold.{bytesOf, fold}
+use Rattle.packets.specs.Answers.{closed, answerOf, errorAnswer, doneAnswer, statusBody, statusAnswer, valueBody, valueAnswer, dataAnswer, fieldBytes, bodyOf, bytesOf as packets-bytesOf}
+use Rattle.packets.specs.Commands.{fieldsIn, fieldsBounded, findIn, listedIn, rowAt, isCode, placeOf, rowOf, fieldValues, valuesOf, saidOf}
+use Rattle.packets.specs.Numbers.{highFirst, numberOf, numberAt, signedOf, unsignedOf}
+use Rattle.packets.specs.Reading.{crcRight, acknowledges, readOf}
+use Rattle.params.specs.Rules.{isId, inRows, soundOf, startOf, allowed, writeOf, valueOf, filter, missingIds, missingOf}
+use Rattle.blocks.specs.Stores.{soundRing, placeOf as blocks-placeOf, blockAt, blocksFrom, blocksIn, oldestOf, putRing, putStore, droppedRing}
+use Rattle.tables.specs.Bounds.{soundPlaces, soundTransfer, soundOf as tables-soundOf}
+use Rattle.tables.specs.Command.{oddOnes, partsOf, orderOf, heardOf}
+use Rattle.tables.specs.Port.{startWords, closeOf, readFrom, readOf as tables-readOf, restartOf, obeyOf, tablesAfter, commandOf, wrongWay, rightOf, storedIn, judgedOf, loadOf, takenBy, dataInOf, readWord, readNext, givenBy, dataOutOf, statusOf}
+use Rattle.tables.specs.Tables.{listed, startTable}
+use Rattle.pipe.specs.Input.{held, packet, listOf, emptyInput, freshInput, gathers, byteOf, countUp, timeoutOf, soundOf as pipe-soundOf, gatheringOf}
+use Rattle.frames.specs.Fields.{placed, frame}
+use Rattle.frames.specs.Layout.{an03, an47, framesOf}
+use Rattle.frames.specs.Samples.{sampleAt, sumOf, averageOf, sumsOf, averagesOf, boundedOf}
+use Rattle.rules.specs.Calls.{powerCall, heardOf as rules-heardOf, replyBytes, spokenBytes, answeredWith, answeredBy, packetCall, deadlineCall, putCall, commandCall, dataInCall, dataOutCall, statusCall, samplesCall, byteCall, timeoutCall}
+use Rattle.rules.specs.Obey.{initialisedPod, initialiseRule, statusRule, updateRule, writeRule, readBy, readRule, receiveRule, shutdownRule, ruleOf, obeyOf as rules-obeyOf, matches, dropFrom, settled, acknowledgedOf, reportOf}
+use Rattle.rules.specs.Refusals.{numberOf as rules-numberOf, saidOf as rules-saidOf, lowest, storeSized, tablesSized}
+use Rattle.rules.specs.Shown.{justInitialised}
+use Rattle.rules.specs.State.{freshFields, freshPod, restful, soundPod}
+use Rattle.rules.specs.World.{step, final, run as rules-run}
+
+-- a command as a call, in a room of its size
+abbrev asks : Command → Call
+asks c = bring (packets-bytesOf c) (replicate 260 0)
+
+abbrev fresh : World
+fresh = powered (replicate 4096 0) (replicate 32768 0) starts
+
+-- a world whose span was narrowed, with a block put
+abbrev hired : World
+hired =
+    final justInitialised (asks (command.Write 1 (pos 100)) ∷ asks (command.Write 2 (pos 200)) ∷ put Priority (replicate 256 7) ∷ [])
+
+-- a world that is not initialised, with the span narrowed, a block waiting and other words in a table
+abbrev left : World
+left =
+    withTables (three (replicate 64 1) (starts .six) (starts .seven))
+    (withParams (writeOf startOf 1 (pos 100) .params) (withRing Priority (record { oldest = 0; waiting = 1 }) (fresh .pod)))
+    fresh
+
+-- a load of four words to table 5, open
+abbrev loading : World
+loading = final justInitialised (order 0x0A04 ∷ [])
+
+-- too many timeouts; the same with no tables; the priority store full, of a pod that is initialised and of one that is not
+abbrev broken : World
+broken = withPod (withPipe (record { bytes = replicate 8 0; gathered = 0; timeouts = 16 }) (fresh .pod)) fresh
+
+abbrev bare : World
+bare = withTables (three [] [] []) (broken .pod) broken
+
+abbrev fullIn : World → World
+fullIn w = withPod (withRing Priority (record { oldest = 0; waiting = 16 }) (w .pod)) w
+
+abbrev saysIn : World → Call → Said
+saysIn w c = step w c .told .said
+
+abbrev readAt : World → Told
+readAt w = step w (asks (command.Read 1)) .told
+
+pub record NotEmpty : Type 0 where
+  -- one Initialise is accepted by two worlds
+  pub first-accepts : Accepts freshFields (packets-bytesOf (command.Initialise freshFields)) (replicate 260 0) hired
+  pub second-accepts : Accepts freshFields (packets-bytesOf (command.Initialise freshFields)) (replicate 260 0) justInitialised
+  -- that answered differently before it, both without error
+  pub first-answers : succeeded (readAt hired) ≡ true
+  pub second-answers : succeeded (readAt justInitialised) ≡ true
+  pub differently : readAt hired ≡ readAt justInitialised → ⊥
+  -- two worlds are asleep together, and differ in blocks, parameters and table words
+  pub asleep : Asleep left fresh
+  pub blocks : left .pod .priority ≡ fresh .pod .priority → ⊥
+  pub params : left .pod .params ≡ fresh .pod .params → ⊥
+  pub words : left .tables ≡ fresh .tables → ⊥
+  -- a load is open, one is taken and one is not
+  pub fit : Fit loading
+  pub load : loading .pod .words .transfer ≡ Load Five 4 0
+  pub taken : rightOf (sizeOf Five) (tables-numberOf Five) 4 (5 ∷ 63 ∷ 1 ∷ 9 ∷ []) ≡ true
+  pub not-taken : rightOf (sizeOf Five) (tables-numberOf Five) 4 (5 ∷ 64 ∷ 1 ∷ 9 ∷ []) ≡ false
+  -- a packet is damaged by its length, one by its CRC
+  pub short : damaged (0x91 ∷ []) ≡ true
+  pub wrong : damaged (0x91 ∷ 0x01 ∷ 0x00 ∷ 0x00 ∷ []) ≡ true
+  -- each number is given, also where higher rows hold too
+  pub numbers : (saysIn bare (bring [] []) ∷ saysIn bare (bring [] (replicate 260 0)) ∷ saysIn broken (put Priority [])
+      ∷ saysIn fresh (put Priority []) ∷ saysIn fresh (samples 32 (replicate 128 0)) ∷ saysIn fresh (byte 0)
+      ∷ saysIn (fullIn fresh) (put Priority (replicate 256 0)) ∷ saysIn (fullIn justInitialised) (put Priority (replicate 256 0)) ∷ [])
+      ≡ map refused (1 ∷ 2 ∷ 3 ∷ 4 ∷ 5 ∷ 6 ∷ 6 ∷ 7 ∷ [])
+
+pub not-empty : NotEmpty
+unfolding ones poly leaving bitIn bits run crcFrom crcOf bytesOf fold closed answerOf errorAnswer doneAnswer statusBody statusAnswer valueBody valueAnswer dataAnswer fieldBytes bodyOf packets-bytesOf fieldsIn fieldsBounded findIn listedIn rowAt isCode placeOf rowOf fieldValues valuesOf saidOf highFirst numberOf numberAt signedOf unsignedOf crcRight acknowledges readOf isId inRows soundOf startOf allowed writeOf valueOf filter missingIds missingOf soundRing blocks-placeOf blockAt blocksFrom blocksIn oldestOf putRing putStore droppedRing soundPlaces soundTransfer tables-soundOf oddOnes partsOf orderOf heardOf startWords closeOf readFrom tables-readOf restartOf obeyOf tablesAfter commandOf wrongWay rightOf storedIn judgedOf loadOf takenBy dataInOf readWord readNext givenBy dataOutOf statusOf listed startTable held packet listOf emptyInput freshInput gathers byteOf countUp timeoutOf pipe-soundOf gatheringOf placed frame an03 an47 framesOf sampleAt sumOf averageOf sumsOf averagesOf boundedOf powerCall rules-heardOf replyBytes spokenBytes answeredWith answeredBy packetCall deadlineCall putCall commandCall dataInCall dataOutCall statusCall samplesCall byteCall timeoutCall initialisedPod initialiseRule statusRule updateRule writeRule readBy readRule receiveRule shutdownRule ruleOf rules-obeyOf matches dropFrom settled acknowledgedOf reportOf rules-numberOf rules-saidOf lowest storeSized tablesSized justInitialised freshFields freshPod restful soundPod step final rules-run succeeded
+not-empty =
+    record {
+      first-accepts = record { asks = refl; accepted = refl };
+      second-accepts = record { asks = refl; accepted = refl };
+      first-answers = refl;
+      second-answers = refl;
+      differently = λ e. let z : _≡_ {A = ℕ} 0 255 = ap (λ (t : Told). getD (t .bytes) 3 0) e in omega arith;
+      asleep =
+          record {
+            near =
+                record {
+                  initialised = refl;
+                  fields = refl;
+                  exchange = refl;
+                  words = refl;
+                  pipe = refl;
+                  priority = refl;
+                  ordinary = refl;
+                  five = refl;
+                  six = refl;
+                  seven = refl;
+                };
+            first = refl;
+            second = refl;
+            off = refl;
+          };
+      blocks = λ e. let z : _≡_ {A = ℕ} 1 0 = ap (λ (r : Ring). r .waiting) e in omega arith;
+      params = λ e. false≢true (sym (ap (λ (q : Params). getD (q .written) 0 false) e));
+      words = λ e. let z : _≡_ {A = ℕ} 1 0 = ap (λ (t : Three). getD (t .five) 0 0) e in omega arith;
+      fit = record { priority = refl; ordinary = refl; tables = refl; sound = refl; load = refl };
+      load = refl;
+      taken = refl;
+      not-taken = refl;
+      short = refl;
+      wrong = refl;
+      numbers = refl;
+    }

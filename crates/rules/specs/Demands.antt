@@ -1,0 +1,147 @@
+-- What the owner asked for, said of the rules. Each name is a statement; proofs/ has a proof of each.
+-- Assumes nothing.
+use Prim.Native.Nat.{ℕ, _+_, _-_, _<_, _≤_, min}
+use mathlib.Core.Path.{_≡_}
+use mathlib.Core.Logic.{_↔_}
+use mathlib.Core.Bool.{Bool, true, false, not, _&&_, _||_, cond}
+use mathlib.Core.List.{List, [], _∷_, map}
+use lib.ListN.{length}
+use lib.Seq.{sets}
+use lib.Dec.{eqb, ltb}
+use lib.IntN.{ℤ}
+use Rattle.blocks.specs.declared.Store.{Store}
+use Rattle.blocks.specs.Stores.{capacityOf, blocksIn}
+use Rattle.packets.specs.declared.Fields.{Fields}
+use Rattle.packets.specs.declared.Parsed.the-variants.{Asked}
+use Rattle.packets.specs.declared.Command.the-variants as command
+use Rattle.packets.specs.Reading.{readOf, crcRight}
+use Rattle.packets.specs.Answers.{valueAnswer}
+use Rattle.params.specs.Rows.{rowOf}
+use Rattle.params.specs.Rules.{isId}
+use Rattle.tables.specs.declared.Table.{Table}
+use Rattle.tables.specs.declared.Transfer.the-variants.{Load}
+use Rattle.tables.specs.Tables.{numberOf, sizeOf, Three, wordsOf, withTable}
+use Rattle.tables.specs.Port.{rightOf, storedIn}
+use Rattle.rules.specs.State.{ringOf, soundPod}
+use Rattle.rules.specs.Obey.{shut}
+use Rattle.rules.specs.Refusals.{Said, refused, storeSized, tablesSized}
+use Rattle.rules.specs.World.{World, Call, packet, dataIn, Told, told, Stepped, stepped, withPod, storeIn, isRefused, step, final, run, powered}
+use Rattle.rules.specs.Rows.{holds}
+use Rattle.rules.specs.History.{Waiting, succeeded, historyOf, waitingFrom, nothingWaits, timeoutsFrom, valueFrom}
+use Rattle.rules.specs.Pairs.{Accepts, ShutsDown, Near, Asleep, tells, Event, past}
+
+-- ---- 1. "Any packet, word, sample or state may arrive. Each is answered, or refused by a number in document 01"
+
+-- "A number is given exactly when its row holds", the lowest first; where none holds, the call is answered
+abbrev pub AlwaysAnswered : Type 0
+AlwaysAnswered =
+    (w : World) (c : Call) (n : ℕ)
+    → (step w c .told .said ≡ refused n) ↔ ((holds n w c ≡ true) × ((m : ℕ) → m < n → holds m w c ≡ false))
+
+-- "and a refused call leaves all its lent memory and the pod's state as they came"
+abbrev pub RefusedUnchanged : Type 0
+RefusedUnchanged = (w : World) (c : Call) (n : ℕ) → step w c .told .said ≡ refused n → step w c .world ≡ w
+
+-- the answer room among that memory
+abbrev pub RefusedRoom : Type 0
+RefusedRoom = (w : World) (b room : List ℕ) (n : ℕ) → step w (packet b room) .told .said ≡ refused n → step w (packet b room) .told .bytes ≡ room
+
+-- from power on no call leaves the bounds, whatever the world it is made in
+abbrev pub KeptSound : Type 0
+KeptSound = (p o : List ℕ) (t : Three) (cs : List Call) → soundPod (final (powered p o t) cs .pod) ≡ true
+
+-- ---- 2. "Answers, tables, waiting blocks and frames are exactly what document 01 takes from those papers."
+
+-- a world in which no row up to 3 holds
+pub record Fit (w : World) : Type 0 where
+  pub priority : length (w .priority) ≡ 4096
+  pub ordinary : length (w .ordinary) ≡ 32768
+  pub tables : tablesSized (w .tables) ≡ true
+  pub sound : soundPod (w .pod) ≡ true
+  -- the load's array has its length
+  pub load : length (w .pod .words .load) ≡ 64
+
+-- "A table load counts when its last word is in and every check passes, and then changes the addressed words and no other."
+abbrev pub LoadWhole : Type 0
+LoadWhole =
+    (w : World) (t : Table) (n : ℕ) (xs : List ℕ) → Fit w → w .pod .words .transfer ≡ Load t n 0 → length xs ≡ n
+    → (final w (map dataIn xs) .tables
+    ≡ cond (rightOf (sizeOf t) (numberOf t) n xs) (withTable t (storedIn n xs (wordsOf t (w .tables))) (w .tables)) (w .tables))
+    × (final w (map dataIn xs) .pod .words .error ≡ (w .pod .words .error || not (rightOf (sizeOf t) (numberOf t) n xs)))
+
+-- a load cut short leaves nothing behind: whatever call but a data word comes next, the tables are as if no word had come
+abbrev pub LoadCut : Type 0
+LoadCut =
+    (w : World) (t : Table) (n : ℕ) (xs : List ℕ) (c : Call) → Fit w → w .pod .words .transfer ≡ Load t n 0 → length xs < n
+    → (final w (map dataIn xs) .tables ≡ w .tables)
+    × (((x : ℕ) → c ≡ dataIn x → ⊥) → step (final w (map dataIn xs)) c .world .tables ≡ step w c .world .tables)
+
+-- a packet that is damaged: under 4 bytes or its CRC wrong
+abbrev pub damaged : List ℕ → Bool
+damaged b = not (eqb (length b) 0) && (ltb (length b) 4 || not (crcRight b))
+
+-- "A damaged packet closes at most an open exchange."
+abbrev pub Damage : Type 0
+Damage =
+    (w : World) (b room : List ℕ) → damaged b ≡ true
+    → step w (packet b room) .world ≡ cond (isRefused (step w (packet b room) .told .said)) w (withPod (shut (w .pod)) w)
+
+-- the waiting blocks are, in order and byte for byte, those put since Initialise less those acknowledged
+abbrev pub BlocksAreHistory : Type 0
+BlocksAreHistory =
+    (s : Store) (p o : List ℕ) (t : Three) (cs : List Call) → length p ≡ 4096 → length o ≡ 32768
+    → blocksIn (capacityOf s) (ringOf s (final (powered p o t) cs .pod)) (storeIn s (final (powered p o t) cs))
+    ≡ waitingFrom s nothingWaits (historyOf (powered p o t) cs) .blocks
+
+-- and as many wait as the state says, which is what Status shows
+abbrev pub CountIsBlocks : Type 0
+CountIsBlocks =
+    (s : Store) (w : World) → ringOf s (w .pod) .waiting ≡ length (blocksIn (capacityOf s) (ringOf s (w .pod)) (storeIn s w))
+
+-- the timeout count is the timeouts since Initialise that sent something, up to 15
+abbrev pub TimeoutsAreHistory : Type 0
+TimeoutsAreHistory =
+    (p o : List ℕ) (t : Three) (cs : List Call)
+    → final (powered p o t) cs .pod .pipe .timeouts ≡ min (timeoutsFrom 0 (historyOf (powered p o t) cs)) 15
+
+-- a parameter read, answered without error, gives what was last written since Initialise, else the start
+abbrev pub ReadIsWritten : Type 0
+ReadIsWritten =
+    (p o : List ℕ) (t : Three) (cs : List Call) (b room : List ℕ) (id : ℕ) → readOf b ≡ Asked (command.Read id)
+    → succeeded (step (final (powered p o t) cs) (packet b room) .told) ≡ true
+    → step (final (powered p o t) cs) (packet b room) .told .bytes
+    ≡ sets room 0 (valueAnswer 0x94 id (valueFrom id (rowOf id .start) (historyOf (powered p o t) cs)))
+
+-- ---- 3. "Give both the same accepted Initialise, then the same calls .. From that Initialise's answer on, their answers and
+-- table words are equal" (and they are those of demand 2, since a run is made of its rules)
+
+-- for ANY two worlds, whatever came before
+abbrev pub NoTrace : Type 0
+NoTrace =
+    (f : Fields) (b room : List ℕ) (v w : World) → Accepts f b room v → Accepts f b room w
+    → (cs : List Call) → run v (packet b room ∷ cs) ≡ run w (packet b room ∷ cs)
+
+-- "Take two pods with any two pasts since power-on, damage and refusals included."
+abbrev pub NoTracePast : Type 0
+NoTracePast =
+    (f : Fields) (b room : List ℕ) (p₁ o₁ p₂ o₂ : List ℕ) (t₁ t₂ : Three) (es₁ es₂ : List Event)
+    → Accepts f b room (past (powered p₁ o₁ t₁) es₁) → Accepts f b room (past (powered p₂ o₂ t₂) es₂)
+    → (cs : List Call) → run (past (powered p₁ o₁ t₁) es₁) (packet b room ∷ cs) ≡ run (past (powered p₂ o₂ t₂) es₂) (packet b room ∷ cs)
+
+-- ".. two such pods that differ only in parameters, table words and survey blocks answer alike": every call, up to and
+-- including the next accepted Initialise, and by NoTrace ever after
+abbrev pub AnswerAlike : Type 0
+AnswerAlike = (v w : World) → Asleep v w → (cs : List Call) → tells v cs ≡ tells w cs
+
+-- "From power-on to the first accepted Initialise": two worlds from power on are such a pair, whatever their blocks
+abbrev pub AsleepFromPower : Type 0
+AsleepFromPower =
+    (p₁ o₁ p₂ o₂ : List ℕ) (t₁ t₂ : Three) → length p₁ ≡ length p₂ → length o₁ ≡ length o₂
+    → length (t₁ .five) ≡ length (t₂ .five) → length (t₁ .six) ≡ length (t₂ .six) → length (t₁ .seven) ≡ length (t₂ .seven)
+    → Asleep (powered p₁ o₁ t₁) (powered p₂ o₂ t₂)
+
+-- "and from an accepted Shutdown to the next accepted Initialise"
+abbrev pub AsleepFromShutdown : Type 0
+AsleepFromShutdown =
+    (b room : List ℕ) (v w : World) → Near v w → ShutsDown b room v → ShutsDown b room w
+    → Asleep (step v (packet b room) .world) (step w (packet b room) .world)

@@ -1,0 +1,210 @@
+-- What a list of calls and answers alone says of the pod: nothing here looks at its state.
+-- Assumes nothing.
+use Prim.Native.Nat.{ℕ, _+_}
+use mathlib.Core.Bool.{Bool, true, false, not, _&&_, cond}
+use mathlib.Core.List.{List, [], _∷_, _++_}
+use lib.Dec.{ltb, eqb}
+use lib.IntN.{ℤ}
+use lib.ListN.{length, drop, getD}
+use Rattle.blocks.specs.declared.Store.{Store}
+use Rattle.blocks.specs.declared.Store.the-variants.{Priority, Ordinary}
+use Rattle.packets.specs.declared.Command.{Command}
+use Rattle.packets.specs.declared.Command.the-variants as command
+use Rattle.packets.specs.declared.Parsed.{Parsed}
+use Rattle.packets.specs.declared.Parsed.the-variants.{Nothing, Error, Acknowledgement, Asked}
+use Rattle.packets.specs.Reading.{readOf}
+use Rattle.params.specs.Rows.{rowOf}
+use Rattle.rules.specs.declared.Exchange.{Exchange}
+use Rattle.rules.specs.declared.Exchange.the-variants.{Closed, Status, Read, Receive}
+use Rattle.rules.specs.Refusals.{Said, refused, done, bytes, word}
+use Rattle.rules.specs.World.{World, Call, power, packet, deadline, put, command, dataIn, dataOut, status, samples, byte, timeout, Told, isRefused, step}
+
+-- a call with what it told
+pub record Entry : Type 0 where
+  pub call : Call
+  pub told : Told
+
+-- the history of some calls
+unfoldable pub historyOf : World → List Call → List Entry
+historyOf w [] = []
+historyOf w (c ∷ cs) = record { call = c; told = step w c .told } ∷ historyOf (step w c .world) cs
+
+-- a packet that was not refused was answered without error: there is an answer, and its second byte is 0x01
+abbrev pub answeredOne : Said → List ℕ → Bool
+answeredOne (refused n) room = false
+answeredOne done room = false
+answeredOne (bytes n) room = ltb 0 n && eqb (getD room 1 0) 0x01
+answeredOne (word x) room = false
+
+unfoldable pub succeeded : Told → Bool
+succeeded t = answeredOne (t .said) (t .bytes)
+
+-- "A type 2 answer without error opens an exchange"
+unfoldable pub opens : Command → Exchange
+opens (command.Initialise f) = Closed
+opens command.Status = Status
+opens (command.Update f) = Closed
+opens (command.Write id v) = Closed
+opens (command.Read id) = Read
+opens command.Priority = Receive Priority
+opens command.Data = Receive Ordinary
+opens command.Shutdown = Closed
+
+-- the exchange that is open after a packet
+unfoldable pub exchangeBy : Parsed → Bool → Exchange → Exchange
+exchangeBy Nothing ok x = x
+exchangeBy (Error first n) ok x = Closed
+exchangeBy (Acknowledgement first one) ok x = Closed
+exchangeBy (Asked c) ok x = cond ok (opens c) Closed
+
+-- and after any call
+unfoldable pub exchangeAfter : Call → Told → Exchange → Exchange
+exchangeAfter power t x = cond (isRefused (t .said)) x Closed
+exchangeAfter (packet b room) t x = cond (isRefused (t .said)) x (exchangeBy (readOf b) (succeeded t) x)
+exchangeAfter deadline t x = cond (isRefused (t .said)) x Closed
+exchangeAfter (put s b) t x = x
+exchangeAfter (command y) t x = x
+exchangeAfter (dataIn y) t x = x
+exchangeAfter dataOut t x = x
+exchangeAfter status t x = x
+exchangeAfter (samples k xs) t x = x
+exchangeAfter (byte b) t x = x
+exchangeAfter timeout t x = x
+
+abbrev pub sameStore : Store → Store → Bool
+sameStore Priority Priority = true
+sameStore Priority Ordinary = false
+sameStore Ordinary Priority = false
+sameStore Ordinary Ordinary = true
+
+-- an exchange of a block of that store
+abbrev pub isReceive : Store → Exchange → Bool
+isReceive s Closed = false
+isReceive s Status = false
+isReceive s Read = false
+isReceive s (Receive r) = sameStore s r
+
+-- whether a packet is an Initialise
+abbrev pub asksInitialise : Parsed → Bool
+asksInitialise Nothing = false
+asksInitialise (Error first n) = false
+asksInitialise (Acknowledgement first one) = false
+asksInitialise (Asked (command.Initialise f)) = true
+asksInitialise (Asked command.Status) = false
+asksInitialise (Asked (command.Update f)) = false
+asksInitialise (Asked (command.Write id v)) = false
+asksInitialise (Asked (command.Read id)) = false
+asksInitialise (Asked command.Priority) = false
+asksInitialise (Asked command.Data) = false
+asksInitialise (Asked command.Shutdown) = false
+
+-- a call begins anew: power on, or an accepted Initialise
+unfoldable pub begins : Call → Told → Bool
+begins power t = not (isRefused (t .said))
+begins (packet b room) t = asksInitialise (readOf b) && succeeded t
+begins deadline t = false
+begins (put s b) t = false
+begins (command y) t = false
+begins (dataIn y) t = false
+begins dataOut t = false
+begins status t = false
+begins (samples k xs) t = false
+begins (byte b) t = false
+begins timeout t = false
+
+-- the code of a receive from a store
+abbrev pub receiveCode : Store → ℕ
+receiveCode Priority = 0x95
+receiveCode Ordinary = 0x96
+
+-- a packet, with that exchange open, acknowledges a block of the store: the 0x01 form, with the code of its receive
+unfoldable pub acknowledged : Store → Parsed → Exchange → Bool
+acknowledged s Nothing x = false
+acknowledged s (Error first n) x = false
+acknowledged s (Acknowledgement first one) x = isReceive s x && (one && eqb first (receiveCode s))
+acknowledged s (Asked c) x = false
+
+-- the blocks that wait after a call, those before it being q: one behind the others, or the oldest gone
+unfoldable pub blocksBy : Store → Call → Told → Exchange → List (List ℕ) → List (List ℕ)
+blocksBy s power t x q = q
+blocksBy s (packet b room) t x q = cond (not (isRefused (t .said)) && acknowledged s (readOf b) x) (drop 1 q) q
+blocksBy s deadline t x q = q
+blocksBy s (put r b) t x q = cond (not (isRefused (t .said)) && sameStore s r) (q ++ (b ∷ [])) q
+blocksBy s (command y) t x q = q
+blocksBy s (dataIn y) t x q = q
+blocksBy s dataOut t x q = q
+blocksBy s status t x q = q
+blocksBy s (samples k xs) t x q = q
+blocksBy s (byte b) t x q = q
+blocksBy s timeout t x q = q
+
+-- the exchange and the waiting blocks of a store, by the history
+pub record Waiting : Type 0 where
+  pub exchange : Exchange
+  pub blocks : List (List ℕ)
+
+unfoldable pub waitingAfter : Store → Entry → Waiting → Waiting
+waitingAfter s e x =
+    record {
+      exchange = exchangeAfter (e .call) (e .told) (x .exchange);
+      blocks = cond (begins (e .call) (e .told)) [] (blocksBy s (e .call) (e .told) (x .exchange) (x .blocks));
+    }
+
+-- "those put since Initialise less those acknowledged"
+unfoldable pub waitingFrom : Store → Waiting → List Entry → Waiting
+waitingFrom s x [] = x
+waitingFrom s x (e ∷ es) = waitingFrom s (waitingAfter s e x) es
+
+abbrev pub nothingWaits : Waiting
+nothingWaits = record { exchange = Closed; blocks = [] }
+
+-- 1 for a timeout that sent something
+unfoldable pub shortBy : Call → Told → ℕ
+shortBy power t = 0
+shortBy (packet b room) t = 0
+shortBy deadline t = 0
+shortBy (put s b) t = 0
+shortBy (command y) t = 0
+shortBy (dataIn y) t = 0
+shortBy dataOut t = 0
+shortBy status t = 0
+shortBy (samples k xs) t = 0
+shortBy (byte b) t = 0
+shortBy timeout t = cond (eqb (length (t .bytes)) 0) 0 1
+
+-- "timeouts since Initialise" that sent something
+unfoldable pub timeoutsFrom : ℕ → List Entry → ℕ
+timeoutsFrom n [] = n
+timeoutsFrom n (e ∷ es) = timeoutsFrom (cond (begins (e .call) (e .told)) 0 (n + shortBy (e .call) (e .told))) es
+
+-- the value that a parameter write carries, if it is one of that id
+abbrev pub writtenBy : ℕ → Parsed → ℤ → ℤ
+writtenBy id Nothing v = v
+writtenBy id (Error first n) v = v
+writtenBy id (Acknowledgement first one) v = v
+writtenBy id (Asked (command.Initialise f)) v = v
+writtenBy id (Asked command.Status) v = v
+writtenBy id (Asked (command.Update f)) v = v
+writtenBy id (Asked (command.Write k u)) v = cond (eqb k id) u v
+writtenBy id (Asked (command.Read k)) v = v
+writtenBy id (Asked command.Priority) v = v
+writtenBy id (Asked command.Data) v = v
+writtenBy id (Asked command.Shutdown) v = v
+
+unfoldable pub valueBy : ℕ → Call → Told → ℤ → ℤ
+valueBy id power t v = v
+valueBy id (packet b room) t v = cond (succeeded t) (writtenBy id (readOf b) v) v
+valueBy id deadline t v = v
+valueBy id (put s b) t v = v
+valueBy id (command y) t v = v
+valueBy id (dataIn y) t v = v
+valueBy id dataOut t v = v
+valueBy id status t v = v
+valueBy id (samples k xs) t v = v
+valueBy id (byte b) t v = v
+valueBy id timeout t v = v
+
+-- what was last written to a parameter since Initialise, else its start
+unfoldable pub valueFrom : ℕ → ℤ → List Entry → ℤ
+valueFrom id v [] = v
+valueFrom id v (e ∷ es) = valueFrom id (cond (begins (e .call) (e .told)) (rowOf id .start) (valueBy id (e .call) (e .told) v)) es

@@ -1,0 +1,10 @@
+pub mod State
+pub mod Obey
+pub mod Refusals
+pub mod Calls
+pub mod World
+pub mod History
+pub mod Rows
+pub mod Pairs
+pub mod Demands
+pub mod Shown

@@ -1,0 +1,58 @@
+-- The command word: its parts, and what it asks for.
+use Prim.Native.Nat.{ℕ, _/_, _%_, _^_}
+use mathlib.Core.Bool.{Bool, not, _&&_, cond}
+use lib.Dec.{leb, eqb}
+use lib.Count.{ones}
+use Rattle.tables.specs.declared.Table.{Table}
+use Rattle.tables.specs.declared.Table.the-variants.{Five, Six, Seven}
+use Rattle.tables.specs.declared.Parts.{Parts}
+use Rattle.tables.specs.declared.Order.{Order}
+use Rattle.tables.specs.declared.Order.the-variants.{Other, Stop, Restart, Next, Writing, Reading}
+
+-- the count of ones is odd
+unfoldable pub oddOnes : ℕ → Bool
+oddOnes w = eqb (ones w % 2) 1
+
+-- bit 15 parity, bit 14 direction (1 is read), bits 13 to 9 command, bits 8 to 0 length N
+unfoldable pub partsOf : ℕ → Parts
+partsOf w =
+    record {
+      odd = oddOnes w;
+      reads = eqb (w / 2 ^ 14 % 2) 1;
+      command = w / 2 ^ 9 % 2 ^ 5;
+      n = w % 2 ^ 9;
+    }
+
+-- a command writing, with its N
+abbrev pub writes : Parts → ℕ → ℕ → Bool
+writes p c n = not (p .reads) && (eqb (p .command) c && eqb (p .n) n)
+
+-- N 4 to 64
+abbrev pub allowed : ℕ → Bool
+allowed n = leb 4 n && leb n 64
+
+-- a table writing or reading
+abbrev pub transferOf : Table → Parts → Order
+transferOf t p = cond (p .reads) (Reading t (p .n)) (Writing t (p .n))
+
+-- 5, 6, 7 writing or reading
+abbrev pub tableOrder : Parts → Order
+tableOrder p =
+    cond (eqb (p .command) 5) (transferOf Five p)
+    (cond (eqb (p .command) 6) (transferOf Six p)
+    (cond (eqb (p .command) 7) (transferOf Seven p)
+    Other))
+
+-- accepted: the count of ones is odd, and command 0 writing, N 0 or 1; 1 writing, N 1; 5, 6, 7 writing or reading, N 4 to 64
+unfoldable pub orderOf : Parts → Order
+orderOf p =
+    cond (not (p .odd)) Other
+    (cond (writes p 0 0) Stop
+    (cond (writes p 0 1) Restart
+    (cond (writes p 1 1) Next
+    (cond (allowed (p .n)) (tableOrder p)
+    Other))))
+
+-- any while not initialised is not accepted
+unfoldable pub heardOf : Bool → ℕ → Order
+heardOf on w = cond on (orderOf (partsOf w)) Other

@@ -1,0 +1,4 @@
+pub mod Tables
+pub mod Command
+pub mod Port
+pub mod Bounds

@@ -1,0 +1,101 @@
+// The command word: its parts, and what it asks for.
+use crate::Order;
+use crate::Parts;
+use crate::Table;
+ghost use mathlib.Core.Path.{_≡_};
+ghost use Rattle.tables.specs.Command.{oddOnes, partsOf, writes, allowed, transferOf, tableOrder, orderOf, heardOf};
+
+// Whether the count of ones is odd.
+fn odd_ones(word: u16) -> bool
+    ensures { λ r. ⌜ r ≡ oddOnes word ⌝ }
+{
+    let mut rest = word;
+    let mut count: u16 = 0;
+    for i in 0..16usize {
+        count += rest % 2;
+        rest = rest / 2;
+    }
+    count % 2 == 1
+}
+
+pub fn parts(word: u16) -> Parts
+    ensures { λ r. ⌜ r ≡ partsOf word ⌝ }
+{
+    let odd = odd_ones(word);
+    let n = (word % 0x200) as usize;
+    Parts {
+        odd,
+        reads: word / 0x4000 % 2 == 1,
+        command: word / 0x200 % 0x20,
+        n,
+    }
+}
+
+fn transfer(table: Table, p: Parts) -> Order
+    ensures { λ r. ⌜ r ≡ transferOf table p ⌝ }
+{
+    let n = p.n;
+    if p.reads {
+        Order::Reading { table, n }
+    } else {
+        Order::Writing { table, n }
+    }
+}
+
+fn table_order(p: Parts) -> Order
+    ensures { λ r. ⌜ r ≡ tableOrder p ⌝ }
+{
+    if p.command == 5 {
+        return transfer(Table::Five, p);
+    }
+    if p.command == 6 {
+        return transfer(Table::Six, p);
+    }
+    if p.command == 7 {
+        return transfer(Table::Seven, p);
+    }
+    Order::Other
+}
+
+fn writes(p: Parts, command: u16, n: usize) -> bool
+    ensures { λ r. ⌜ r ≡ writes p command n ⌝ }
+{
+    !p.reads & ((p.command == command) & (p.n == n))
+}
+
+pub fn allowed(n: usize) -> bool
+    ensures { λ r. ⌜ r ≡ allowed n ⌝ }
+{
+    (4 <= n) & (n <= 64)
+}
+
+fn order(p: Parts) -> Order
+    ensures { λ r. ⌜ r ≡ orderOf p ⌝ }
+{
+    if !p.odd {
+        return Order::Other;
+    }
+    if writes(p, 0, 0) {
+        return Order::Stop;
+    }
+    if writes(p, 0, 1) {
+        return Order::Restart;
+    }
+    if writes(p, 1, 1) {
+        return Order::Next;
+    }
+    if allowed(p.n) {
+        return table_order(p);
+    }
+    Order::Other
+}
+
+// What a command word asks for, of a pod that is initialised or not.
+pub fn heard(on: bool, word: u16) -> Order
+    ensures { λ r. ⌜ r ≡ heardOf on word ⌝ }
+{
+    if on {
+        return order(parts(word));
+    }
+    Order::Other
+}
