@@ -129,6 +129,6 @@ one-store Priority w = refl
 one-store Ordinary w = refl
 
 pub blocks-are-history : BlocksAreHistory
-blocks-are-history s p o t cs hp ho =
+blocks-are-history s p o t cs =
     one-store s (final (powered p o t) cs)
     ∙ keeps-final s (powered p o t) cs nothingWaits (powered-good p o t) (powered-keeps s p o t) .blocks

@@ -89,7 +89,7 @@ Damage =
 -- the waiting blocks are, in order and byte for byte, those put since Initialise less those acknowledged
 abbrev pub BlocksAreHistory : Type 0
 BlocksAreHistory =
-    (s : Store) (p o : List ℕ) (t : Three) (cs : List Call) → length p ≡ 4096 → length o ≡ 32768
+    (s : Store) (p o : List ℕ) (t : Three) (cs : List Call)
     → blocksIn (capacityOf s) (ringOf s (final (powered p o t) cs .pod)) (storeIn s (final (powered p o t) cs))
     ≡ waitingFrom s nothingWaits (historyOf (powered p o t) cs) .blocks
 
