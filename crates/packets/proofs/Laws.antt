@@ -5,9 +5,9 @@ use native.Mathlib.Omega.{arith}
 use mathlib.Core.Path.{_≡_, refl, sym, ap, _∙_}
 use mathlib.Core.List.{List, [], _∷_}
 use mathlib.Core.Logic.{_⊎_, ⊎-elim}
-use mathlib.Core.Bool.{Bool, true, false, _&&_}
-use borrow.Author.Tests.{leb-true, le-leb, eqb-true}
-use lib.Dec.{leb, eqb}
+use mathlib.Core.Bool.{Bool, true, false, not, _&&_, _||_}
+use borrow.Author.Tests.{ltb-true, leb-true, le-leb, eqb-true, not-true}
+use lib.Dec.{ltb, leb, eqb}
 use lib.IntN.{ℤ, pos, negsuc}
 use lib.ListN.{length, getD, take, drop}
 use lib.Signed.{mag}
@@ -53,7 +53,12 @@ too-short = short
 pub crc-wrong : (p : List ℕ) → 0 < length p → crcRight p ≡ false → readOf p ≡ Error (first p) 0x01
 crc-wrong = damaged
 
--- what is not empty is taken as something, and the first byte said is the packet's: that of an error, of an acknowledgement, a command's code
+-- so check 2 as it stands
+pub check-two : (p : List ℕ) → 0 < length p → (ltb (length p) 4 || not (crcRight p)) ≡ true → readOf p ≡ Error (first p) 0x01
+check-two p n h =
+    split (ltb (length p) 4) (λ e. short p n (ltb-true (length p) 4 e)) (λ e. damaged p n (not-true (crcRight p) (simp e at h)))
+
+-- what is not empty is taken as something, and the first byte said is the packet's
 pub first-said : (p : List ℕ) → 0 < length p → getD (saidOf (readOf p)) 1 (negsuc 0) ≡ pos (first p)
 first-said = named
 
@@ -64,24 +69,27 @@ only-nothing p e =
     split (eqb (length p) 0) (λ z. eqb-true (length p) 0 z)
     (λ z. let n = first-said p (not-empty p z) in let no-number : _≡_ {A = ℕ} 0 1 = cc in absurd (omega arith))
 
-not-nothing : (p : List ℕ) (x : Parsed) → readOf p ≡ x → (x ≡ Nothing → ⊥) → 0 < length p
-not-nothing p x e n =
-    split (eqb (length p) 0) (λ z. absurd (n (sym e ∙ empty p (eqb-true (length p) 0 z)))) (λ z. not-empty p z)
+taken-first : (p : List ℕ) (x : Parsed) → readOf p ≡ x → (x ≡ Nothing → ⊥) → getD (saidOf x) 1 (negsuc 0) ≡ pos (first p)
+taken-first p x e n =
+    rw e at (
+    first-said p
+    (split (eqb (length p) 0) (λ z. absurd (n (sym e ∙ empty p (eqb-true (length p) 0 z)))) (λ z. not-empty p z))
+    )
 
 -- an error has the packet's own first byte
 pub error-first : (p : List ℕ) (f n : ℕ) → readOf p ≡ Error f n → f ≡ first p
 unfolding saidOf
-error-first p f n e = let x = rw e at (first-said p (not-nothing p (Error f n) e (λ z. let y : _≡_ {A = ℕ} 0 1 = cc in omega arith))) in cc
+error-first p f n e = let x = taken-first p (Error f n) e (λ z. let y : _≡_ {A = ℕ} 0 1 = cc in omega arith) in cc
 
 -- so has an acknowledgement
 pub acknowledgement-first : (p : List ℕ) (f : ℕ) (one : Bool) → readOf p ≡ Acknowledgement f one → f ≡ first p
 unfolding saidOf
-acknowledgement-first p f one e = let x = rw e at (first-said p (not-nothing p (Acknowledgement f one) e (λ z. let y : _≡_ {A = ℕ} 0 1 = cc in omega arith))) in cc
+acknowledgement-first p f one e = let x = taken-first p (Acknowledgement f one) e (λ z. let y : _≡_ {A = ℕ} 0 1 = cc in omega arith) in cc
 
 -- and a command's packet begins with its code
 pub asked-first : (p : List ℕ) (c : Command) → readOf p ≡ Asked c → rowOf c .code ≡ first p
 unfolding saidOf
-asked-first p c e = let x = rw e at (first-said p (not-nothing p (Asked c) e (λ z. let y : _≡_ {A = ℕ} 0 1 = cc in omega arith))) in cc
+asked-first p c e = let x = taken-first p (Asked c) e (λ z. let y : _≡_ {A = ℕ} 0 1 = cc in omega arith) in cc
 
 -- ---- numbers
 
@@ -202,7 +210,7 @@ code-listed Shutdown = (refl, refl)
 
 -- ---- bounds
 
--- fields within their bounds, as facts
+-- fields within their bounds, as facts; the test and the facts go both ways
 pub record Within (f : Fields) : Type 0 where
   pub mode : f .mode ≤ 3
   pub milliseconds : f .milliseconds ≤ 999
@@ -240,4 +248,8 @@ bounded-within f h =
 pub within-bounded : (f : Fields) → Within f → fieldsBounded f ≡ true
 unfolding fieldsBounded
 within-bounded f w =
-    simp (le-leb (f .mode) 3 (w .mode), le-leb (f .milliseconds) 999 (w .milliseconds), le-leb (f .priorityremaining) (f .prioritylimit) (w .priority), le-leb (f .memoryremaining) (f .memorylimit) (w .memory), le-leb 1 (f .poll) (w .least), le-leb (f .poll) 60000 (w .most))
+    let a = le-leb (f .mode) 3 (w .mode) in
+    let b = le-leb (f .milliseconds) 999 (w .milliseconds) in
+    let c = le-leb (f .priorityremaining) (f .prioritylimit) (w .priority) in
+    let d = le-leb (f .memoryremaining) (f .memorylimit) (w .memory) in
+    simp (a, b, c, d, le-leb 1 (f .poll) (w .least), le-leb (f .poll) 60000 (w .most))

@@ -12,28 +12,32 @@ use borrow.Author.Needs.{needs}
 use Rattle.packets.proofs.reading.command_in.Statement.{statement}
 use Rattle.packets.proofs.reading.command_in.Tie as tie
 
+-- the packet has as many bytes as its code
+held : (c : tie.Start) (k : ℕ) → c .args .code ≡ k → length (c .args .packet .now) ≡ rowAt k .bytes
+held c k e = c .pre .1 ∙ ap (λ (j : ℕ). rowAt j .bytes) e
+
 fields-in-requires : tie.Need-fields-in-requires
 unfolding rowAt findIn
-fields-in-requires c κs = let long : length (c .before .before .args .packet .now) ≡ 25 = c .before .before .pre .1 ∙ ap (λ (k : ℕ). rowAt k .bytes) (c .match .keys1) in omega arith
+fields-in-requires c κs = omega (arith, held (c .before .before) 0x90 (c .match .keys1))
 
 fields-in-requires-2 : tie.Need-fields-in-requires-2
 unfolding rowAt findIn
-fields-in-requires-2 c κs = let long : length (c .before .before .args .packet .now) ≡ 25 = c .before .before .pre .1 ∙ ap (λ (k : ℕ). rowAt k .bytes) (c .match .keys3) in omega arith
+fields-in-requires-2 c κs = omega (arith, held (c .before .before) 0x92 (c .match .keys3))
 
 shared-slice-read-t7 : tie.Need-shared-slice-read-t7
 unfolding rowAt findIn
-shared-slice-read-t7 c = let long : length (c .before .before .before .args .packet .now) ≡ 9 = c .before .before .before .pre .1 ∙ ap (λ (k : ℕ). rowAt k .bytes) (c .before .match .keys4) in omega arith
+shared-slice-read-t7 c = omega (arith, held (c .before .before .before) 0x93 (c .before .match .keys4))
 
 four-at-requires : tie.Need-four-at-requires
 unfolding rowAt findIn
-four-at-requires c κs = let long : length (c .before .before .before .args .packet .now) ≡ 9 = c .before .before .before .pre .1 ∙ ap (λ (k : ℕ). rowAt k .bytes) (c .before .match .keys4) in omega arith
+four-at-requires c κs = omega (arith, held (c .before .before .before) 0x93 (c .before .match .keys4))
 
 signed-requires : tie.Need-signed-requires
 signed-requires c κs = search needs
 
 shared-slice-read-t11 : tie.Need-shared-slice-read-t11
 unfolding rowAt findIn
-shared-slice-read-t11 c = let long : length (c .before .before .before .args .packet .now) ≡ 5 = c .before .before .before .pre .1 ∙ ap (λ (k : ℕ). rowAt k .bytes) (c .before .match .keys5) in omega arith
+shared-slice-read-t11 c = omega (arith, held (c .before .before .before) 0x94 (c .before .match .keys5))
 
 returns : tie.Need-returns
 unfolding rowAt findIn

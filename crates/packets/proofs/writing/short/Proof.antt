@@ -35,7 +35,9 @@ returns c =
     let body = closing .before .before .before .before in
     let heading = body .before .before .before .before in
     let a = heading .before .before .before .args in
-    answered (a .room .now) (a .first) (a .second) (a .third ∷ []) _ _ _ _ 3 _ (heading .head .ensures) refl refl (omega arith) (body .put-one .ensures) (closing .close .ensures)
+    answered (a .room .now) (a .first) (a .second) (a .third ∷ []) _ _ _ _ 3 _
+    (heading .head .ensures) refl refl (omega arith)
+    (body .put-one .ensures) (closing .close .ensures)
 
 pub short-spec : {M : Type 1} → statement M
 short-spec =

@@ -9,6 +9,10 @@ use borrow.Author.Needs.{needs}
 use Rattle.packets.proofs.writing.status_body.Statement.{statement}
 use Rattle.packets.proofs.writing.status_body.Tie as tie
 
+-- a report has eight ids
+eight : (c : tie.Start) → length (c .args .report .ids) ≡ 8
+eight c = search needs
+
 put-one-requires : tie.Need-put-one-requires
 put-one-requires c κs = search needs
 
@@ -28,7 +32,9 @@ slice-aggregate-copy : tie.Need-slice-aggregate-copy
 slice-aggregate-copy c = search needs
 
 copy-requires : tie.Need-copy-requires
-copy-requires c κs = let n : length (c .before .before .before .before .before .before .before .before .before .before .before .before .before .before .before .before .before .before .before .before .before .before .before .before .args .report .ids) ≡ 8 = search needs in omega arith
+copy-requires c κs =
+    let start = c .before .before .before .before .before .before .before .before .before .before .before .before .before .before .before .before .before .before .before .before .before .before .before .before in
+    omega (arith, eight start)
 
 same-length : tie.Need-same-length
 same-length c = search needs

@@ -36,7 +36,9 @@ returns c =
     let body = closing .before .before .before .before in
     let heading = body .before .before .before .before in
     let a = heading .before .before .before .before .args in
-    answered (a .room .now) (a .first) 0x01 (a .block .now) _ _ _ _ 258 _ (heading .head .ensures) refl (omega arith) (omega arith) (body .copy .ensures) (closing .close .ensures)
+    answered (a .room .now) (a .first) 0x01 (a .block .now) _ _ _ _ 258 _
+    (heading .head .ensures) refl (omega arith) (omega arith)
+    (body .copy .ensures) (closing .close .ensures)
 
 pub write-data-spec : {M : Type 1} → statement M
 write-data-spec =

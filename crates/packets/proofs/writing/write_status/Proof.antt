@@ -42,7 +42,9 @@ returns c =
     let body = closing .before .before .before .before in
     let heading = body .before .before .before .before in
     let a = heading .before .before .before .args in
-    answered (a .room .now) (a .first) 0x01 (statusBody (a .report)) _ _ _ _ 20 _ (heading .head .ensures) refl (omega (arith, status-body-length (a .report) (eight (heading .before .before .before)))) (omega arith) (body .status-body .ensures) (closing .close .ensures)
+    answered (a .room .now) (a .first) 0x01 (statusBody (a .report)) _ _ _ _ 20 _
+    (heading .head .ensures) refl (omega (arith, status-body-length (a .report) (eight (heading .before .before .before)))) (omega arith)
+    (body .status-body .ensures) (closing .close .ensures)
 
 pub write-status-spec : {M : Type 1} → statement M
 write-status-spec =
