@@ -1,0 +1,9 @@
+pub mod Choice
+pub mod GateLaws
+pub mod CallLaws
+pub mod Lent
+pub mod ObeyLaws
+pub mod AcknowledgeLaws
+pub mod AnswerLaws
+pub mod PortLaws
+pub mod Decided

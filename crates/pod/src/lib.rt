@@ -1,0 +1,24 @@
+// The pod's calls: each promises its definition in `rules`, whatever arrives.
+mod acknowledge;
+mod answer;
+mod bytes;
+mod camera;
+mod changes;
+mod gates;
+mod obey;
+mod port;
+mod power;
+mod survey;
+mod words;
+
+pub use bytes::pipe_byte;
+pub use bytes::pipe_timeout;
+pub use camera::put;
+pub use port::packet;
+pub use power::deadline;
+pub use power::power_on;
+pub use survey::samples;
+pub use words::command_word;
+pub use words::data_in;
+pub use words::data_out;
+pub use words::status_word;
