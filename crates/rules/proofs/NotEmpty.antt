@@ -4,7 +4,7 @@ use Prim.Native.Nat.{ℕ}
 use native.Mathlib.Omega.{arith}
 use mathlib.Core.Path.{_≡_, refl, sym, ap}
 use mathlib.Core.Bool.{true, false, false≢true}
-use mathlib.Core.List.{[], _∷_, map}
+use mathlib.Core.List.{List, [], _∷_, _++_, map}
 use lib.IntN.{pos}
 use lib.ListN.{getD, replicate}
 use Rattle.blocks.specs.declared.Ring.{Ring}
@@ -15,7 +15,7 @@ use Rattle.packets.specs.declared.Command.the-variants as command
 use Rattle.tables.specs.declared.Table.the-variants.{Five}
 use Rattle.tables.specs.declared.Transfer.the-variants.{Load}
 use Rattle.tables.specs.Tables.{Three, three, numberOf as tables-numberOf, sizeOf, starts}
-use Rattle.rules.specs.State.{withParams, withRing, withPipe}
+use Rattle.rules.specs.State.{withRing, withPipe}
 use Rattle.rules.specs.Refusals.{Said, refused}
 use Rattle.rules.specs.World.{World, Call, packet as bring, put, command as order, samples, byte, Told, withPod, withTables, powered}
 use Rattle.rules.specs.History.{succeeded}
@@ -41,7 +41,7 @@ use Rattle.frames.specs.Samples.{sampleAt, sumOf, averageOf, sumsOf, averagesOf
 use Rattle.rules.specs.Calls.{powerCall, heardOf as rules-heardOf, replyBytes, spokenBytes, answeredWith, answeredBy, packetCall, deadlineCall, putCall, commandCall, dataInCall, dataOutCall, statusCall, samplesCall, byteCall, timeoutCall}
 use Rattle.rules.specs.Obey.{initialisedPod, initialiseRule, statusRule, updateRule, writeRule, readBy, readRule, receiveRule, shutdownRule, ruleOf, obeyOf as rules-obeyOf, matches, dropFrom, settled, acknowledgedOf, reportOf}
 use Rattle.rules.specs.Refusals.{numberOf as rules-numberOf, saidOf as rules-saidOf, lowest, storeSized, tablesSized}
-use Rattle.rules.specs.Shown.{justInitialised}
+use Rattle.rules.specs.Shown.{justInitialised, load as loads}
 use Rattle.rules.specs.State.{freshFields, freshPod, restful, soundPod}
 use Rattle.rules.specs.World.{step, final, run as rules-run}
 
@@ -57,12 +57,15 @@ abbrev hired : World
 hired =
     final justInitialised (asks (command.Write 1 (pos 100)) ∷ asks (command.Write 2 (pos 200)) ∷ put Priority (replicate 256 7) ∷ [])
 
--- a world that is not initialised, with the span narrowed, a block waiting and other words in a table
+-- a hire of some calls and then a Shutdown; one that narrowed the span, put a block and loaded a word, and one that loaded another
+abbrev hire : List Call → World
+hire cs = final justInitialised (cs ++ (asks command.Shutdown ∷ []))
+
 abbrev left : World
-left =
-    withTables (three (replicate 64 1) (starts .six) (starts .seven))
-    (withParams (writeOf startOf 1 (pos 100) .params) (withRing Priority (record { oldest = 0; waiting = 1 }) (fresh .pod)))
-    fresh
+left = hire (asks (command.Write 1 (pos 100)) ∷ put Priority (replicate 256 7) ∷ loads 5 0 1 7)
+
+abbrev other : World
+other = hire (loads 5 0 1 9)
 
 -- a load of four words to table 5, open
 abbrev loading : World
@@ -92,11 +95,12 @@ pub record NotEmpty : Type 0 where
   pub first-answers : succeeded (readAt hired) ≡ true
   pub second-answers : succeeded (readAt justInitialised) ≡ true
   pub differently : readAt hired ≡ readAt justInitialised → ⊥
-  -- two worlds are asleep together, and differ in blocks, parameters and table words
-  pub asleep : Asleep left fresh
-  pub blocks : left .pod .priority ≡ fresh .pod .priority → ⊥
-  pub params : left .pod .params ≡ fresh .pod .params → ⊥
-  pub words : left .tables ≡ fresh .tables → ⊥
+  -- two worlds after a Shutdown are asleep together, and differ in blocks, parameters, table words and the last load's words
+  pub asleep : Asleep left other
+  pub blocks : left .pod .priority ≡ other .pod .priority → ⊥
+  pub params : left .pod .params ≡ other .pod .params → ⊥
+  pub words : left .tables ≡ other .tables → ⊥
+  pub gathered : left .pod .words .load ≡ other .pod .words .load → ⊥
   -- a load is open, one is taken and one is not
   pub fit : Fit loading
   pub load : loading .pod .words .transfer ≡ Load Five 4 0
@@ -127,7 +131,10 @@ not-empty =
                   initialised = refl;
                   fields = refl;
                   exchange = refl;
-                  words = refl;
+                  error = refl;
+                  transfer = refl;
+                  places = refl;
+                  given = refl;
                   pipe = refl;
                   priority = refl;
                   ordinary = refl;
@@ -141,7 +148,8 @@ not-empty =
           };
       blocks = λ e. let z : _≡_ {A = ℕ} 1 0 = ap (λ (r : Ring). r .waiting) e in omega arith;
       params = λ e. false≢true (sym (ap (λ (q : Params). getD (q .written) 0 false) e));
-      words = λ e. let z : _≡_ {A = ℕ} 1 0 = ap (λ (t : Three). getD (t .five) 0 0) e in omega arith;
+      words = λ e. let z : _≡_ {A = ℕ} 7 9 = ap (λ (t : Three). getD (t .five) 0 0) e in omega arith;
+      gathered = λ e. let z : _≡_ {A = ℕ} 7 9 = ap (λ (l : List ℕ). getD l 3 0) e in omega arith;
       fit = record { priority = refl; ordinary = refl; tables = refl; sound = refl; load = refl };
       load = refl;
       taken = refl;

@@ -26,11 +26,15 @@ pub record ShutsDown (b room : List ℕ) (w : World) : Type 0 where
   pub accepted : succeeded (step w (packet b room) .told) ≡ true
 
 -- "two such pods that differ only in parameters, table words and survey blocks": the rest of the state and all sizes are equal
+-- (the words gathered by the last load are table words)
 pub record Near (v w : World) : Type 0 where
   pub initialised : v .pod .initialised ≡ w .pod .initialised
   pub fields : v .pod .fields ≡ w .pod .fields
   pub exchange : v .pod .exchange ≡ w .pod .exchange
-  pub words : v .pod .words ≡ w .pod .words
+  pub error : v .pod .words .error ≡ w .pod .words .error
+  pub transfer : v .pod .words .transfer ≡ w .pod .words .transfer
+  pub places : v .pod .words .places ≡ w .pod .words .places
+  pub given : v .pod .words .given ≡ w .pod .words .given
   pub pipe : v .pod .pipe ≡ w .pod .pipe
   pub priority : length (v .priority) ≡ length (w .priority)
   pub ordinary : length (v .ordinary) ≡ length (w .ordinary)
