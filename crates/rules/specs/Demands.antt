@@ -5,7 +5,7 @@ use mathlib.Core.Path.{_≡_}
 use mathlib.Core.Logic.{_↔_}
 use mathlib.Core.Bool.{Bool, true, false, not, _&&_, _||_, cond}
 use mathlib.Core.List.{List, [], _∷_, map}
-use lib.ListN.{length}
+use lib.ListN.{length, replicate}
 use lib.Seq.{sets}
 use lib.Dec.{eqb, ltb}
 use lib.IntN.{ℤ}
@@ -20,7 +20,7 @@ use Rattle.params.specs.Rows.{rowOf}
 use Rattle.params.specs.Rules.{isId}
 use Rattle.tables.specs.declared.Table.{Table}
 use Rattle.tables.specs.declared.Transfer.the-variants.{Load}
-use Rattle.tables.specs.Tables.{numberOf, sizeOf, Three, wordsOf, withTable}
+use Rattle.tables.specs.Tables.{numberOf, sizeOf, Three, starts, wordsOf, withTable}
 use Rattle.tables.specs.Port.{rightOf, storedIn}
 use Rattle.rules.specs.State.{ringOf, soundPod}
 use Rattle.rules.specs.Obey.{shut}
@@ -113,13 +113,19 @@ ReadIsWritten =
     ≡ sets room 0 (valueAnswer 0x94 id (valueFrom id (rowOf id .start) (historyOf (powered p o t) cs)))
 
 -- ---- 3. "Give both the same accepted Initialise, then the same calls .. From that Initialise's answer on, their answers and
--- table words are equal" (and they are those of demand 2, since a run is made of its rules)
+-- table words are equal, and are those of demand 2."
 
 -- for ANY two worlds, whatever came before
 abbrev pub NoTrace : Type 0
 NoTrace =
     (f : Fields) (b room : List ℕ) (v w : World) → Accepts f b room v → Accepts f b room w
     → (cs : List Call) → run v (packet b room ∷ cs) ≡ run w (packet b room ∷ cs)
+
+-- "and are those of demand 2": those of a pod just powered, of which demand 2 speaks, that gets the same Initialise
+abbrev pub AsFromPower : Type 0
+AsFromPower =
+    (f : Fields) (b room : List ℕ) (w : World) → Accepts f b room w
+    → (cs : List Call) → run w (packet b room ∷ cs) ≡ run (powered (replicate 4096 0) (replicate 32768 0) starts) (packet b room ∷ cs)
 
 -- "Take two pods with any two pasts since power-on, damage and refusals included."
 abbrev pub NoTracePast : Type 0
