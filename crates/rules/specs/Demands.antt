@@ -25,7 +25,7 @@ use Rattle.tables.specs.Port.{rightOf, storedIn}
 use Rattle.rules.specs.State.{ringOf, soundPod}
 use Rattle.rules.specs.Obey.{shut}
 use Rattle.rules.specs.Refusals.{Said, refused, storeSized, tablesSized}
-use Rattle.rules.specs.World.{World, Call, packet, dataIn, Told, told, Stepped, stepped, withPod, storeIn, isRefused, step, final, run, powered}
+use Rattle.rules.specs.World.{World, Call, packet, dataIn, roomOf, Told, told, Stepped, stepped, withPod, storeIn, isRefused, step, final, run, powered}
 use Rattle.rules.specs.Rows.{holds}
 use Rattle.rules.specs.History.{Waiting, succeeded, historyOf, waitingFrom, nothingWaits, timeoutsFrom, valueFrom}
 use Rattle.rules.specs.Pairs.{Accepts, ShutsDown, Near, Asleep, tells, Event, past}
@@ -42,9 +42,9 @@ AlwaysAnswered =
 abbrev pub RefusedUnchanged : Type 0
 RefusedUnchanged = (w : World) (c : Call) (n : ℕ) → step w c .told .said ≡ refused n → step w c .world ≡ w
 
--- the answer room among that memory
-abbrev pub RefusedRoom : Type 0
-RefusedRoom = (w : World) (b room : List ℕ) (n : ℕ) → step w (packet b room) .told .said ≡ refused n → step w (packet b room) .told .bytes ≡ room
+-- "A refused call gives its number and nothing else": no bytes, and the answer room, where one is lent, as it came
+abbrev pub RefusedTells : Type 0
+RefusedTells = (w : World) (c : Call) (n : ℕ) → step w c .told .said ≡ refused n → step w c .told .bytes ≡ roomOf c
 
 -- from power on no call leaves the bounds, whatever the world it is made in
 abbrev pub KeptSound : Type 0
@@ -127,7 +127,8 @@ AsFromPower =
     (f : Fields) (b room : List ℕ) (w : World) → Accepts f b room w
     → (cs : List Call) → run w (packet b room ∷ cs) ≡ run (powered (replicate 4096 0) (replicate 32768 0) starts) (packet b room ∷ cs)
 
--- "Take two pods with any two pasts since power-on, damage and refusals included."
+-- "Take two pods with any two pasts since power-on, damage and refusals included." Any damage is covered: memory may be
+-- overwritten by anything at any time, so that such a past leads to any world at all, and this is NoTrace in the owner's words
 abbrev pub NoTracePast : Type 0
 NoTracePast =
     (f : Fields) (b room : List ℕ) (p₁ o₁ p₂ o₂ : List ℕ) (t₁ t₂ : Three) (es₁ es₂ : List Event)

@@ -54,12 +54,12 @@ unfoldable pub tells : World → List Call → List Told
 tells w [] = []
 tells w (c ∷ cs) = step w c .told ∷ tells (step w c .world) cs
 
--- "any two pasts since power-on, damage and refusals included": a call, or damage that leaves anything anywhere
+-- "any two pasts since power-on, damage and refusals included": a call, or memory overwritten by anything
 pub data Event : Type 0 where
   ask : Call → Event
-  damage : World → Event
+  overwritten : World → Event
 
 unfoldable pub past : World → List Event → World
 past w [] = w
 past w (ask c ∷ es) = past (step w c .world) es
-past w (damage v ∷ es) = past v es
+past w (overwritten v ∷ es) = past v es
