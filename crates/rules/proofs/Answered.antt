@@ -3,15 +3,16 @@
 use Prim.Native.Nat.{ℕ, _<_}
 use mathlib.Core.Path.{_≡_, refl, sym, ap, _∙_, subst}
 use mathlib.Core.Bool.{Bool, true, false, false≢true}
-use mathlib.Core.List.{List}
+use mathlib.Core.List.{List, []}
 use lib.Dec.{eqb}
 use Rattle.blocks.specs.declared.Store.{Store}
 use Rattle.blocks.specs.declared.Store.the-variants.{Priority, Ordinary}
+use Rattle.pipe.specs.Input.{packet as sent, listOf}
 use Rattle.rules.specs.Refusals.{refused, lowest}
 use Rattle.rules.specs.Calls.{powerCall, answeredWith, answeredBy, packetCall, deadlineCall, putCall, commandCall, dataInCall, dataOutCall, statusCall, samplesCall, byteCall, timeoutCall}
 use Rattle.rules.specs.World.{World, Call, power, packet, deadline, put, command, dataIn, dataOut, status, samples, byte, timeout, isRefused, step}
 use Rattle.rules.specs.Rows.{rowsOf, holds}
-use Rattle.rules.specs.Demands.{AlwaysAnswered, RefusedUnchanged, RefusedRoom}
+use Rattle.rules.specs.Demands.{AlwaysAnswered, RefusedUnchanged, RefusedTells}
 use Rattle.rules.proofs.Pick.{split}
 use Rattle.rules.proofs.Lowest.{rising, lowest-is, is-lowest}
 
@@ -71,7 +72,22 @@ always-answered w c n =
 pub refused-unchanged : RefusedUnchanged
 refused-unchanged w c n h = gate w c .world (refused-stops w c n h)
 
--- the answer room too
-pub refused-room : RefusedRoom
-unfolding step packetCall rowsOf
-refused-room w b room n h = rw (refused-stops w (packet b room) n h)
+put-tells : (w : World) (s : Store) (b : List ℕ) → step w (put s b) .told .bytes ≡ []
+unfolding step
+put-tells w Priority b = refl
+put-tells w Ordinary b = refl
+
+-- "A refused call gives its number and nothing else"
+pub refused-tells : RefusedTells
+unfolding step rowsOf packetCall samplesCall byteCall timeoutCall sent listOf
+refused-tells w power n h = refl
+refused-tells w (packet b room) n h = rw (refused-stops w (packet b room) n h)
+refused-tells w deadline n h = refl
+refused-tells w (put s b) n h = put-tells w s b
+refused-tells w (command x) n h = refl
+refused-tells w (dataIn x) n h = refl
+refused-tells w dataOut n h = refl
+refused-tells w status n h = refl
+refused-tells w (samples k xs) n h = rw (refused-stops w (samples k xs) n h)
+refused-tells w (byte b) n h = rw (refused-stops w (byte b) n h)
+refused-tells w timeout n h = rw (refused-stops w timeout n h)

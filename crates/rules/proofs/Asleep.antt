@@ -2,13 +2,13 @@
 -- Assumes nothing.
 use Prim.Native.Nat.{ℕ}
 use mathlib.Core.Path.{_≡_, refl, sym, ap, _∙_}
-use mathlib.Core.Bool.{true, false, _&&_, false≢true}
+use mathlib.Core.Bool.{true, false, _&&_, _||_, false≢true}
 use mathlib.Core.List.{List}
 use lib.ListN.{length}
 use Rattle.tables.specs.declared.Transfer.{Transfer}
 use Rattle.tables.specs.declared.Transfer.the-variants.{Idle, Address, Load, Read}
 use Rattle.tables.specs.Tables.{Three, starts}
-use Rattle.tables.specs.Port.{closeOf}
+use Rattle.tables.specs.Port.{closeOf, isOpen}
 use Rattle.tables.specs.Bounds.{soundPlaces, soundTransfer, soundOf as soundWords}
 use Rattle.rules.specs.declared.Exchange.{Exchange}
 use Rattle.rules.specs.declared.Exchange.the-variants as exchange
@@ -59,7 +59,6 @@ shownBy w =
     record {
       fields = w .pod .fields;
       error = w .pod .words .error;
-      load = w .pod .words .load;
       places = w .pod .words .places;
       given = w .pod .words .given;
       pipe = w .pod .pipe;
@@ -69,6 +68,7 @@ abbrev hiddenIn : World → Hidden
 hiddenIn w =
     record {
       params = w .pod .params;
+      load = w .pod .words .load;
       priority = w .pod .priority;
       ordinary = w .pod .ordinary;
       first = w .priority;
@@ -98,10 +98,9 @@ shown-same : (v w : World) → Near v w → shownBy v ≡ shownBy w
 shown-same v w n = λ i.
     record {
       fields = n .fields i;
-      error = n .words i .error;
-      load = n .words i .load;
-      places = n .words i .places;
-      given = n .words i .given;
+      error = n .error i;
+      places = n .places i;
+      given = n .given i;
       pipe = n .pipe i;
     }
 
@@ -128,7 +127,7 @@ fresh-asleep : (p₁ o₁ p₂ o₂ : List ℕ) (t₁ t₂ : Three) → length p
 unfolding freshPod
 fresh-asleep p₁ o₁ p₂ o₂ t₁ t₂ hp ho h₅ h₆ h₇ =
     record {
-      near = record { initialised = refl; fields = refl; exchange = refl; words = refl; pipe = refl; priority = hp; ordinary = ho; five = h₅; six = h₆; seven = h₇ };
+      near = record { initialised = refl; fields = refl; exchange = refl; error = refl; transfer = refl; places = refl; given = refl; pipe = refl; priority = hp; ordinary = ho; five = h₅; six = h₆; seven = h₇ };
       first = fresh-sound;
       second = fresh-sound;
       off = refl;
@@ -159,6 +158,7 @@ off-sound p h =
     })
 
 pub asleep-from-shutdown : AsleepFromShutdown
+unfolding closeOf
 asleep-from-shutdown b room v w n hv hw =
     rw (shuts-step b room v hv, shuts-step b room w hw)
     (record {
@@ -166,7 +166,10 @@ asleep-from-shutdown b room v w n hv hw =
         initialised = refl;
         fields = n .fields;
         exchange = refl;
-        words = ap closeOf (n .words);
+        error = λ i. n .error i || isOpen (n .transfer i);
+        transfer = refl;
+        places = n .places;
+        given = n .given;
         pipe = n .pipe;
         priority = n .priority;
         ordinary = n .ordinary;

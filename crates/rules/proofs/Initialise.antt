@@ -3,13 +3,14 @@
 use Prim.Native.Nat.{ℕ}
 use mathlib.Core.Path.{_≡_, sym, ap, _∙_}
 use mathlib.Core.Bool.{true, false, false≢true}
-use mathlib.Core.List.{List}
+use mathlib.Core.List.{List, [], _∷_}
 use lib.Seq.{sets}
 use Rattle.packets.specs.declared.Fields.{Fields}
 use Rattle.packets.specs.declared.Parsed.{Parsed}
 use Rattle.packets.specs.declared.Parsed.the-variants.{Asked}
 use Rattle.packets.specs.declared.Command.the-variants.{Initialise}
 use Rattle.packets.specs.Commands.{fieldsBounded, rowOf, placeOf}
+use Rattle.packets.specs.Reading.{readOf}
 use Rattle.packets.specs.Answers.{doneAnswer}
 use Rattle.packets.proofs.Laws.{done-length}
 use Rattle.tables.specs.Tables.{starts}
@@ -22,7 +23,7 @@ use Rattle.rules.specs.World.{World, packet, told, Stepped, stepped, wit
 use Rattle.rules.specs.History.{succeeded}
 use Rattle.rules.specs.Pairs.{Accepts}
 use Rattle.rules.proofs.Pick.{split, or-true}
-use Rattle.rules.proofs.Succeeded.{succeeded-not-refused, error-fails}
+use Rattle.rules.proofs.Succeeded.{succeeded-not-refused, error-fails, one-succeeds}
 use Rattle.rules.proofs.Packet.{PacketFits, packet-fits, packet-answered}
 
 -- ---- what an Initialise is heard as
@@ -36,6 +37,15 @@ module _ (f : Fields) (p : Pod) where
   pub initialise-failed : fieldsBounded f ≡ false → heardOf (Asked (Initialise f)) p ≡ heard (says 0x90 (Failure 0x39)) (shut p)
   unfolding heardOf obeyOf ruleOf initialiseRule rowOf placeOf
   initialise-failed h = rw (or-true (p .initialised), h)
+
+-- a world that has what the call is lent accepts an Initialise with fields within their bounds
+pub fit-accepts : (f : Fields) (b room : List ℕ) (w : World) → readOf b ≡ Asked (Initialise f) → fieldsBounded f ≡ true → PacketFits room w
+    → Accepts f b room w
+unfolding answeredBy answeredWith spokenBytes replyBytes doneAnswer
+fit-accepts f b room w asks bounded h =
+    let by : Heard → Stepped = λ x. byPacketed (answeredBy x room (w .priority) (w .ordinary) (w .tables)) w in
+    let so = packet-answered w b room h ∙ ap (λ (r : Parsed). by (heardOf r (w .pod))) asks ∙ ap by (initialise-heard f (w .pod) bounded) in
+    record { asks = asks; accepted = ap (λ (s : Stepped). succeeded (s .told)) so ∙ one-succeeds room 0x90 (0x7E ∷ []) (h .room) }
 
 -- ---- what an accepted Initialise tells of the world
 

@@ -4,7 +4,7 @@ use Prim.Native.Nat.{ℕ}
 use native.Mathlib.Omega.{arith}
 use mathlib.Core.Path.{_≡_, refl, sym, ap}
 use mathlib.Core.Bool.{true, false, false≢true}
-use mathlib.Core.List.{[], _∷_, map}
+use mathlib.Core.List.{List, [], _∷_, map}
 use lib.IntN.{pos}
 use lib.ListN.{getD, replicate}
 use Rattle.blocks.specs.declared.Ring.{Ring}
@@ -15,12 +15,13 @@ use Rattle.packets.specs.declared.Command.the-variants as command
 use Rattle.tables.specs.declared.Table.the-variants.{Five}
 use Rattle.tables.specs.declared.Transfer.the-variants.{Load}
 use Rattle.tables.specs.Tables.{Three, three, numberOf as tables-numberOf, sizeOf, starts}
-use Rattle.rules.specs.State.{withParams, withRing, withPipe}
+use Rattle.rules.specs.State.{withRing, withPipe}
 use Rattle.rules.specs.Refusals.{Said, refused}
 use Rattle.rules.specs.World.{World, Call, packet as bring, put, command as order, samples, byte, Told, withPod, withTables, powered}
 use Rattle.rules.specs.History.{succeeded}
-use Rattle.rules.specs.Pairs.{Accepts, Asleep}
+use Rattle.rules.specs.Pairs.{Accepts, ShutsDown, Near, Asleep}
 use Rattle.rules.specs.Demands.{Fit, damaged}
+use Rattle.rules.proofs.Asleep.{asleep-from-shutdown}
 use lib.Count.{ones}
 use Rattle.crc.specs.Crc.{poly, leaving, bitIn, bits, run, crcFrom, crcOf}
 use Rattle.crc.specs.Fold.{bytesOf, fold}
@@ -41,7 +42,7 @@ use Rattle.frames.specs.Samples.{sampleAt, sumOf, averageOf, sumsOf, averagesOf
 use Rattle.rules.specs.Calls.{powerCall, heardOf as rules-heardOf, replyBytes, spokenBytes, answeredWith, answeredBy, packetCall, deadlineCall, putCall, commandCall, dataInCall, dataOutCall, statusCall, samplesCall, byteCall, timeoutCall}
 use Rattle.rules.specs.Obey.{initialisedPod, initialiseRule, statusRule, updateRule, writeRule, readBy, readRule, receiveRule, shutdownRule, ruleOf, obeyOf as rules-obeyOf, matches, dropFrom, settled, acknowledgedOf, reportOf}
 use Rattle.rules.specs.Refusals.{numberOf as rules-numberOf, saidOf as rules-saidOf, lowest, storeSized, tablesSized}
-use Rattle.rules.specs.Shown.{justInitialised}
+use Rattle.rules.specs.Shown.{justInitialised, load as loads}
 use Rattle.rules.specs.State.{freshFields, freshPod, restful, soundPod}
 use Rattle.rules.specs.World.{step, final, run as rules-run}
 
@@ -57,12 +58,16 @@ abbrev hired : World
 hired =
     final justInitialised (asks (command.Write 1 (pos 100)) ∷ asks (command.Write 2 (pos 200)) ∷ put Priority (replicate 256 7) ∷ [])
 
--- a world that is not initialised, with the span narrowed, a block waiting and other words in a table
-abbrev left : World
-left =
-    withTables (three (replicate 64 1) (starts .six) (starts .seven))
-    (withParams (writeOf startOf 1 (pos 100) .params) (withRing Priority (record { oldest = 0; waiting = 1 }) (fresh .pod)))
-    fresh
+-- a world whose span was narrowed, with a block put and a word loaded; one with another word loaded
+abbrev busy : World
+busy = final justInitialised (asks (command.Write 1 (pos 100)) ∷ put Priority (replicate 256 7) ∷ loads 5 0 1 7)
+
+abbrev other : World
+other = final justInitialised (loads 5 0 1 9)
+
+-- a world after Shutdown
+abbrev left : World → World
+left w = step w (asks command.Shutdown) .world
 
 -- a load of four words to table 5, open
 abbrev loading : World
@@ -92,11 +97,16 @@ pub record NotEmpty : Type 0 where
   pub first-answers : succeeded (readAt hired) ≡ true
   pub second-answers : succeeded (readAt justInitialised) ≡ true
   pub differently : readAt hired ≡ readAt justInitialised → ⊥
-  -- two worlds are asleep together, and differ in blocks, parameters and table words
-  pub asleep : Asleep left fresh
-  pub blocks : left .pod .priority ≡ fresh .pod .priority → ⊥
-  pub params : left .pod .params ≡ fresh .pod .params → ⊥
-  pub words : left .tables ≡ fresh .tables → ⊥
+  -- two such pods both accept a Shutdown
+  pub near : Near busy other
+  pub first-shuts : ShutsDown (packets-bytesOf command.Shutdown) (replicate 260 0) busy
+  pub second-shuts : ShutsDown (packets-bytesOf command.Shutdown) (replicate 260 0) other
+  -- then they are asleep together, and differ in blocks, parameters, table words and the last load's words
+  pub asleep : Asleep (left busy) (left other)
+  pub blocks : left busy .pod .priority ≡ left other .pod .priority → ⊥
+  pub params : left busy .pod .params ≡ left other .pod .params → ⊥
+  pub words : left busy .tables ≡ left other .tables → ⊥
+  pub gathered : left busy .pod .words .load ≡ left other .pod .words .load → ⊥
   -- a load is open, one is taken and one is not
   pub fit : Fit loading
   pub load : loading .pod .words .transfer ≡ Load Five 4 0
@@ -114,34 +124,24 @@ pub record NotEmpty : Type 0 where
 pub not-empty : NotEmpty
 unfolding ones poly leaving bitIn bits run crcFrom crcOf bytesOf fold closed answerOf errorAnswer doneAnswer statusBody statusAnswer valueBody valueAnswer dataAnswer fieldBytes bodyOf packets-bytesOf fieldsIn fieldsBounded findIn listedIn rowAt isCode placeOf rowOf fieldValues valuesOf saidOf highFirst numberOf numberAt signedOf unsignedOf crcRight acknowledges readOf isId inRows soundOf startOf allowed writeOf valueOf filter missingIds missingOf soundRing blocks-placeOf blockAt blocksFrom blocksIn oldestOf putRing putStore droppedRing soundPlaces soundTransfer tables-soundOf oddOnes partsOf orderOf heardOf startWords closeOf readFrom tables-readOf restartOf obeyOf tablesAfter commandOf wrongWay rightOf storedIn judgedOf loadOf takenBy dataInOf readWord readNext givenBy dataOutOf statusOf listed startTable held packet listOf emptyInput freshInput gathers byteOf countUp timeoutOf pipe-soundOf gatheringOf placed frame an03 an47 framesOf sampleAt sumOf averageOf sumsOf averagesOf boundedOf powerCall rules-heardOf replyBytes spokenBytes answeredWith answeredBy packetCall deadlineCall putCall commandCall dataInCall dataOutCall statusCall samplesCall byteCall timeoutCall initialisedPod initialiseRule statusRule updateRule writeRule readBy readRule receiveRule shutdownRule ruleOf rules-obeyOf matches dropFrom settled acknowledgedOf reportOf rules-numberOf rules-saidOf lowest storeSized tablesSized justInitialised freshFields freshPod restful soundPod step final rules-run succeeded
 not-empty =
+    let nearby : Near busy other =
+    record { initialised = refl; fields = refl; exchange = refl; error = refl; transfer = refl; places = refl; given = refl; pipe = refl; priority = refl; ordinary = refl; five = refl; six = refl; seven = refl } in
+    let first-off : ShutsDown (packets-bytesOf command.Shutdown) (replicate 260 0) busy = record { asks = refl; accepted = refl } in
+    let second-off : ShutsDown (packets-bytesOf command.Shutdown) (replicate 260 0) other = record { asks = refl; accepted = refl } in
     record {
       first-accepts = record { asks = refl; accepted = refl };
       second-accepts = record { asks = refl; accepted = refl };
       first-answers = refl;
       second-answers = refl;
       differently = λ e. let z : _≡_ {A = ℕ} 0 255 = ap (λ (t : Told). getD (t .bytes) 3 0) e in omega arith;
-      asleep =
-          record {
-            near =
-                record {
-                  initialised = refl;
-                  fields = refl;
-                  exchange = refl;
-                  words = refl;
-                  pipe = refl;
-                  priority = refl;
-                  ordinary = refl;
-                  five = refl;
-                  six = refl;
-                  seven = refl;
-                };
-            first = refl;
-            second = refl;
-            off = refl;
-          };
+      near = nearby;
+      first-shuts = first-off;
+      second-shuts = second-off;
+      asleep = asleep-from-shutdown (packets-bytesOf command.Shutdown) (replicate 260 0) busy other nearby first-off second-off;
       blocks = λ e. let z : _≡_ {A = ℕ} 1 0 = ap (λ (r : Ring). r .waiting) e in omega arith;
       params = λ e. false≢true (sym (ap (λ (q : Params). getD (q .written) 0 false) e));
-      words = λ e. let z : _≡_ {A = ℕ} 1 0 = ap (λ (t : Three). getD (t .five) 0 0) e in omega arith;
+      words = λ e. let z : _≡_ {A = ℕ} 7 9 = ap (λ (t : Three). getD (t .five) 0 0) e in omega arith;
+      gathered = λ e. let z : _≡_ {A = ℕ} 7 9 = ap (λ (l : List ℕ). getD l 3 0) e in omega arith;
       fit = record { priority = refl; ordinary = refl; tables = refl; sound = refl; load = refl };
       load = refl;
       taken = refl;

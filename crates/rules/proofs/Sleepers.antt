@@ -45,14 +45,14 @@ use Rattle.rules.proofs.Twins.{emptied, Twin, twin, Same, twin-step}
 pub record Open : Type 0 where
   pub fields : Fields
   pub error : Bool
-  pub load : List ℕ
   pub places : Places
   pub given : Given
   pub pipe : Input
 
--- what it keeps to itself: parameters, blocks and table words
+-- what it keeps to itself: parameters, blocks and table words, those of the last load too
 pub record Hidden : Type 0 where
   pub params : Params
+  pub load : List ℕ
   pub priority : Ring
   pub ordinary : Ring
   pub first : List ℕ
@@ -66,7 +66,7 @@ podOf r x =
       fields = r .fields;
       params = x .params;
       exchange = Closed;
-      words = record { error = r .error; transfer = Idle; load = r .load; places = r .places; given = r .given };
+      words = record { error = r .error; transfer = Idle; load = x .load; places = r .places; given = r .given };
       priority = x .priority;
       ordinary = x .ordinary;
       pipe = r .pipe;
@@ -106,7 +106,7 @@ tables-same t u h₅ h₆ h₇ = rw (h₅, h₆, h₇)
 -- ---- what a word does to a sleeping pod
 
 abbrev withError : Bool → Open → Open
-withError e r = record { fields = r .fields; error = e; load = r .load; places = r .places; given = r .given; pipe = r .pipe }
+withError e r = record { fields = r .fields; error = e; places = r .places; given = r .given; pipe = r .pipe }
 
 error-sound : (e : Bool) (r : Open) (x : Hidden) → soundPod (podOf r x) ≡ true → soundPod (podOf (withError e r) x) ≡ true
 unfolding soundPod soundWords restful
@@ -127,11 +127,11 @@ unfolding soundPod freshPod freshFields restful soundRing startParams soundParam
 fresh-sound = refl
 
 abbrev freshOpen : Open
-freshOpen = record { fields = freshFields; error = false; load = replicate 64 0; places = noPlaces; given = Nowhere; pipe = freshInput }
+freshOpen = record { fields = freshFields; error = false; places = noPlaces; given = Nowhere; pipe = freshInput }
 
 -- the stores keep what lay in them
 abbrev freshened : Hidden → Hidden
-freshened x = record { params = startParams; priority = emptyRing; ordinary = emptyRing; first = x .first; second = x .second; tables = starts }
+freshened x = record { params = startParams; load = replicate 64 0; priority = emptyRing; ordinary = emptyRing; first = x .first; second = x .second; tables = starts }
 
 -- ---- each call of two sleepers
 

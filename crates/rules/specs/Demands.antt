@@ -5,7 +5,7 @@ use mathlib.Core.Path.{_≡_}
 use mathlib.Core.Logic.{_↔_}
 use mathlib.Core.Bool.{Bool, true, false, not, _&&_, _||_, cond}
 use mathlib.Core.List.{List, [], _∷_, map}
-use lib.ListN.{length}
+use lib.ListN.{length, replicate}
 use lib.Seq.{sets}
 use lib.Dec.{eqb, ltb}
 use lib.IntN.{ℤ}
@@ -20,12 +20,12 @@ use Rattle.params.specs.Rows.{rowOf}
 use Rattle.params.specs.Rules.{isId}
 use Rattle.tables.specs.declared.Table.{Table}
 use Rattle.tables.specs.declared.Transfer.the-variants.{Load}
-use Rattle.tables.specs.Tables.{numberOf, sizeOf, Three, wordsOf, withTable}
+use Rattle.tables.specs.Tables.{numberOf, sizeOf, Three, starts, wordsOf, withTable}
 use Rattle.tables.specs.Port.{rightOf, storedIn}
 use Rattle.rules.specs.State.{ringOf, soundPod}
 use Rattle.rules.specs.Obey.{shut}
 use Rattle.rules.specs.Refusals.{Said, refused, storeSized, tablesSized}
-use Rattle.rules.specs.World.{World, Call, packet, dataIn, Told, told, Stepped, stepped, withPod, storeIn, isRefused, step, final, run, powered}
+use Rattle.rules.specs.World.{World, Call, packet, dataIn, roomOf, Told, told, Stepped, stepped, withPod, storeIn, isRefused, step, final, run, powered}
 use Rattle.rules.specs.Rows.{holds}
 use Rattle.rules.specs.History.{Waiting, succeeded, historyOf, waitingFrom, nothingWaits, timeoutsFrom, valueFrom}
 use Rattle.rules.specs.Pairs.{Accepts, ShutsDown, Near, Asleep, tells, Event, past}
@@ -42,9 +42,9 @@ AlwaysAnswered =
 abbrev pub RefusedUnchanged : Type 0
 RefusedUnchanged = (w : World) (c : Call) (n : ℕ) → step w c .told .said ≡ refused n → step w c .world ≡ w
 
--- the answer room among that memory
-abbrev pub RefusedRoom : Type 0
-RefusedRoom = (w : World) (b room : List ℕ) (n : ℕ) → step w (packet b room) .told .said ≡ refused n → step w (packet b room) .told .bytes ≡ room
+-- "A refused call gives its number and nothing else": no bytes, and the answer room, where one is lent, as it came
+abbrev pub RefusedTells : Type 0
+RefusedTells = (w : World) (c : Call) (n : ℕ) → step w c .told .said ≡ refused n → step w c .told .bytes ≡ roomOf c
 
 -- from power on no call leaves the bounds, whatever the world it is made in
 abbrev pub KeptSound : Type 0
@@ -113,7 +113,7 @@ ReadIsWritten =
     ≡ sets room 0 (valueAnswer 0x94 id (valueFrom id (rowOf id .start) (historyOf (powered p o t) cs)))
 
 -- ---- 3. "Give both the same accepted Initialise, then the same calls .. From that Initialise's answer on, their answers and
--- table words are equal" (and they are those of demand 2, since a run is made of its rules)
+-- table words are equal, and are those of demand 2."
 
 -- for ANY two worlds, whatever came before
 abbrev pub NoTrace : Type 0
@@ -121,7 +121,14 @@ NoTrace =
     (f : Fields) (b room : List ℕ) (v w : World) → Accepts f b room v → Accepts f b room w
     → (cs : List Call) → run v (packet b room ∷ cs) ≡ run w (packet b room ∷ cs)
 
--- "Take two pods with any two pasts since power-on, damage and refusals included."
+-- "and are those of demand 2": those of a pod just powered, of which demand 2 speaks, that gets the same Initialise
+abbrev pub AsFromPower : Type 0
+AsFromPower =
+    (f : Fields) (b room : List ℕ) (w : World) → Accepts f b room w
+    → (cs : List Call) → run w (packet b room ∷ cs) ≡ run (powered (replicate 4096 0) (replicate 32768 0) starts) (packet b room ∷ cs)
+
+-- "Take two pods with any two pasts since power-on, damage and refusals included." Any damage is covered: memory may be
+-- overwritten by anything at any time, so that such a past leads to any world at all, and this is NoTrace in the owner's words
 abbrev pub NoTracePast : Type 0
 NoTracePast =
     (f : Fields) (b room : List ℕ) (p₁ o₁ p₂ o₂ : List ℕ) (t₁ t₂ : Three) (es₁ es₂ : List Event)

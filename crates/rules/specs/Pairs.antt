@@ -26,11 +26,15 @@ pub record ShutsDown (b room : List ℕ) (w : World) : Type 0 where
   pub accepted : succeeded (step w (packet b room) .told) ≡ true
 
 -- "two such pods that differ only in parameters, table words and survey blocks": the rest of the state and all sizes are equal
+-- (the words gathered by the last load are table words)
 pub record Near (v w : World) : Type 0 where
   pub initialised : v .pod .initialised ≡ w .pod .initialised
   pub fields : v .pod .fields ≡ w .pod .fields
   pub exchange : v .pod .exchange ≡ w .pod .exchange
-  pub words : v .pod .words ≡ w .pod .words
+  pub error : v .pod .words .error ≡ w .pod .words .error
+  pub transfer : v .pod .words .transfer ≡ w .pod .words .transfer
+  pub places : v .pod .words .places ≡ w .pod .words .places
+  pub given : v .pod .words .given ≡ w .pod .words .given
   pub pipe : v .pod .pipe ≡ w .pod .pipe
   pub priority : length (v .priority) ≡ length (w .priority)
   pub ordinary : length (v .ordinary) ≡ length (w .ordinary)
@@ -50,12 +54,12 @@ unfoldable pub tells : World → List Call → List Told
 tells w [] = []
 tells w (c ∷ cs) = step w c .told ∷ tells (step w c .world) cs
 
--- "any two pasts since power-on, damage and refusals included": a call, or damage that leaves anything anywhere
+-- "any two pasts since power-on, damage and refusals included": a call, or memory overwritten by anything
 pub data Event : Type 0 where
   ask : Call → Event
-  damage : World → Event
+  overwritten : World → Event
 
 unfoldable pub past : World → List Event → World
 past w [] = w
 past w (ask c ∷ es) = past (step w c .world) es
-past w (damage v ∷ es) = past v es
+past w (overwritten v ∷ es) = past v es

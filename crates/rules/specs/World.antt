@@ -35,6 +35,20 @@ pub data Call : Type 0 where
   byte : ℕ → Call
   timeout : Call
 
+-- the answer room that a call is lent; only a packet is lent one
+abbrev pub roomOf : Call → List ℕ
+roomOf power = []
+roomOf (packet b room) = room
+roomOf deadline = []
+roomOf (put s b) = []
+roomOf (command x) = []
+roomOf (dataIn x) = []
+roomOf dataOut = []
+roomOf status = []
+roomOf (samples k xs) = []
+roomOf (byte b) = []
+roomOf timeout = []
+
 -- what a call tells: what it says, and the bytes that it gives: the room after a packet, two frames, what the pipe sent
 pub record Told : Type 0 where
   pub said : Said
@@ -84,8 +98,9 @@ byPacketed o w = stepped (told (o .said) (o .room)) (withTables (o .tables) (o .
 abbrev pub byPut : Store → Put → World → Stepped
 byPut s o w = stepped (told (o .said) []) (withStore s (o .store) (o .pod) w)
 
+-- refused, it gives no frames
 abbrev pub bySampled : Sampled → World → Stepped
-bySampled o w = stepped (told (o .said) (o .frames .three ++ o .frames .fortyseven)) w
+bySampled o w = stepped (told (o .said) (cond (isRefused (o .said)) [] (o .frames .three ++ o .frames .fortyseven))) w
 
 abbrev pub byPiping : Piping → World → Stepped
 byPiping o w = stepped (told (o .said) (listOf (o .sent))) (withPod (o .pod) w)
@@ -125,6 +140,6 @@ unfoldable pub run : World → List Call → List Point
 run w [] = []
 run w (c ∷ cs) = point (step w c) ∷ run (step w c .world) cs
 
--- a world from power on: whatever lay in the stores, in tables of their sizes
+-- a world from power on, whatever lay in the stores (where it is refused, a fresh pod with the tables as they came)
 abbrev pub powered : List ℕ → List ℕ → Three → World
 powered p o t = step (record { pod = freshPod; priority = p; ordinary = o; tables = t }) power .world
