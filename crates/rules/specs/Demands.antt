@@ -19,15 +19,18 @@ use Rattle.packets.specs.Answers.{valueAnswer}
 use Rattle.params.specs.Rows.{rowOf}
 use Rattle.params.specs.Rules.{isId}
 use Rattle.tables.specs.declared.Table.{Table}
+use Rattle.tables.specs.declared.Order.the-variants.{Restart}
 use Rattle.tables.specs.declared.Transfer.the-variants.{Load}
 use Rattle.tables.specs.Tables.{numberOf, sizeOf, Three, wordsOf, withTable}
+use Rattle.tables.specs.Command.{heardOf}
 use Rattle.tables.specs.Port.{rightOf, storedIn}
 use Rattle.rules.specs.State.{ringOf, soundPod}
 use Rattle.rules.specs.Obey.{shut}
 use Rattle.rules.specs.Refusals.{Said, refused, storeSized, tablesSized}
-use Rattle.rules.specs.World.{World, Call, packet, dataIn, Told, told, Stepped, stepped, withPod, storeIn, isRefused, step, final, run, powered}
+use Rattle.rules.specs.World.{World, Call, packet, command as word, dataIn, Told, told, Stepped, stepped, withPod, storeIn, isRefused, step, final, run, powered}
 use Rattle.rules.specs.Rows.{holds}
-use Rattle.rules.specs.History.{Waiting, succeeded, historyOf, waitingFrom, nothingWaits, timeoutsFrom, valueFrom}
+use Rattle.rules.specs.Checks.{Answers, errored}
+use Rattle.rules.specs.History.{Waiting, succeeded, begins, historyOf, waitingFrom, nothingWaits, timeoutsFrom, valueFrom}
 use Rattle.rules.specs.Pairs.{Accepts, ShutsDown, Near, Asleep, tells, Event, past}
 
 -- ---- 1. "Any packet, word, sample or state may arrive. Each is answered, or refused by a number in document 01"
@@ -76,6 +79,22 @@ LoadCut =
     → (final w (map dataIn xs) .tables ≡ w .tables)
     × (((x : ℕ) → c ≡ dataIn x → ⊥) → step (final w (map dataIn xs)) c .world .tables ≡ step w c .world .tables)
 
+-- ".. and no other": power on, an accepted Initialise, a data word written and the command word "tables to their starts" apart, a
+-- call leaves the tables as they are
+abbrev pub TablesOnly : Type 0
+TablesOnly =
+    (w : World) (c : Call) → begins c (step w c .told) ≡ false
+    → ((x : ℕ) → c ≡ dataIn x → ⊥)
+    → ((x : ℕ) → c ≡ word x → heardOf (w .pod .initialised) x ≡ Restart → ⊥)
+    → step w c .world .tables ≡ w .tables
+
+-- "Checks in this order": a packet that is not refused is answered the error of the first check that fails, and where none does
+-- a command is answered without error, at the packet table's length
+abbrev pub PacketAnswered : Type 0
+PacketAnswered =
+    (w : World) (b room : List ℕ) → isRefused (step w (packet b room) .told .said) ≡ false
+    → Answers (readOf b) (w .pod) room (step w (packet b room) .told)
+
 -- a packet that is damaged: under 4 bytes or its CRC wrong
 abbrev pub damaged : List ℕ → Bool
 damaged b = not (eqb (length b) 0) && (ltb (length b) 4 || not (crcRight b))
@@ -85,6 +104,12 @@ abbrev pub Damage : Type 0
 Damage =
     (w : World) (b room : List ℕ) → damaged b ≡ true
     → step w (packet b room) .world ≡ cond (isRefused (step w (packet b room) .told .said)) w (withPod (shut (w .pod)) w)
+
+-- and so does every packet that gets an error answer: a field out of its bounds, a refused write, nothing waiting
+abbrev pub ErrorUnchanged : Type 0
+ErrorUnchanged =
+    (w : World) (b room : List ℕ) → errored (step w (packet b room) .told) ≡ true
+    → step w (packet b room) .world ≡ withPod (shut (w .pod)) w
 
 -- the waiting blocks are, in order and byte for byte, those put since Initialise less those acknowledged
 abbrev pub BlocksAreHistory : Type 0
