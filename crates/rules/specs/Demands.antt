@@ -19,15 +19,15 @@ use Rattle.packets.specs.Answers.{valueAnswer}
 use Rattle.params.specs.Rows.{rowOf}
 use Rattle.params.specs.Rules.{isId}
 use Rattle.tables.specs.declared.Table.{Table}
-use Rattle.tables.specs.declared.Order.the-variants.{Restart}
-use Rattle.tables.specs.declared.Transfer.the-variants.{Load}
+use Rattle.tables.specs.declared.Order.the-variants.{Restart, Writing}
+use Rattle.tables.specs.declared.Transfer.the-variants.{Idle, Load}
 use Rattle.tables.specs.Tables.{numberOf, sizeOf, Three, wordsOf, withTable}
 use Rattle.tables.specs.Command.{heardOf}
-use Rattle.tables.specs.Port.{rightOf, storedIn}
-use Rattle.rules.specs.State.{ringOf, soundPod}
+use Rattle.tables.specs.Port.{isOpen, rightOf, storedIn}
+use Rattle.rules.specs.State.{withWords, ringOf, soundPod}
 use Rattle.rules.specs.Obey.{shut}
-use Rattle.rules.specs.Refusals.{Said, refused, storeSized, tablesSized}
-use Rattle.rules.specs.World.{World, Call, packet, command as word, dataIn, Told, told, Stepped, stepped, withPod, storeIn, isRefused, step, final, run, powered}
+use Rattle.rules.specs.Refusals.{Said, refused, tablesSized}
+use Rattle.rules.specs.World.{World, Call, packet, command as word, dataIn, Told, told, Stepped, stepped, withPod, withTables, storeIn, isRefused, step, final, run, powered}
 use Rattle.rules.specs.Rows.{holds}
 use Rattle.rules.specs.Checks.{Answers, errored}
 use Rattle.rules.specs.History.{Waiting, succeeded, begins, historyOf, waitingFrom, nothingWaits, timeoutsFrom, valueFrom}
@@ -55,22 +55,29 @@ KeptSound = (p o : List ℕ) (t : Three) (cs : List Call) → soundPod (final (p
 
 -- ---- 2. "Answers, tables, waiting blocks and frames are exactly what document 01 takes from those papers."
 
--- a world in which no row up to 3 holds
+-- a world in which no row that applies to a table word holds
 pub record Fit (w : World) : Type 0 where
-  pub priority : length (w .priority) ≡ 4096
-  pub ordinary : length (w .ordinary) ≡ 32768
   pub tables : tablesSized (w .tables) ≡ true
   pub sound : soundPod (w .pod) ≡ true
   -- the load's array has its length
   pub load : length (w .pod .words .load) ≡ 64
 
--- "A table load counts when its last word is in and every check passes, and then changes the addressed words and no other."
+-- the world after a load of these words: where every check passes the addressed words of its table are new, else message error is
+-- set, as it is where a transfer was cut; the load is closed, and all else is as it was
+abbrev pub loaded : Table → ℕ → List ℕ → World → World
+loaded t n xs w =
+    let right = rightOf (sizeOf t) (numberOf t) n xs in
+    let words = w .pod .words in
+    withTables (cond right (withTable t (storedIn n xs (wordsOf t (w .tables))) (w .tables)) (w .tables))
+    (withWords (record { error = (words .error || isOpen (words .transfer)) || not right; transfer = Idle; load = sets (words .load) 0 xs; places = words .places; given = words .given }) (w .pod))
+    w
+
+-- "A table load counts when its last word is in and every check passes, and then changes the addressed words and no other.":
+-- from its command word on, whatever transfer was open
 abbrev pub LoadWhole : Type 0
 LoadWhole =
-    (w : World) (t : Table) (n : ℕ) (xs : List ℕ) → Fit w → w .pod .words .transfer ≡ Load t n 0 → length xs ≡ n
-    → (final w (map dataIn xs) .tables
-    ≡ cond (rightOf (sizeOf t) (numberOf t) n xs) (withTable t (storedIn n xs (wordsOf t (w .tables))) (w .tables)) (w .tables))
-    × (final w (map dataIn xs) .pod .words .error ≡ (w .pod .words .error || not (rightOf (sizeOf t) (numberOf t) n xs)))
+    (w : World) (x : ℕ) (t : Table) (n : ℕ) (xs : List ℕ) → Fit w → w .pod .initialised ≡ true → heardOf true x ≡ Writing t n → length xs ≡ n
+    → final w (word x ∷ map dataIn xs) ≡ loaded t n xs w
 
 -- a load cut short leaves nothing behind: whatever call but a data word comes next, the tables are as if no word had come
 abbrev pub LoadCut : Type 0
