@@ -145,7 +145,7 @@ fine-answers : (c : Command) (room l : List ℕ) → 260 ≤ length room → Fin
 fine-answers c room l wide h = (
   ap bytes (h .long),
   let fits : length (answerOf (rowOf c .code) 0x01 (h .body)) ≤ length room = omega (arith, wide, short-answers c, h .long, ap length (h .is)) in
-  rw (h .is) (first-two room (rowOf c .code) 0x01 (h .body) fits),
+      rw (h .is) (first-two room (rowOf c .code) 0x01 (h .body) fits),
 )
 
 module _ (w : World) (room : List ℕ) (h : PacketFits room w) where
