@@ -27,3 +27,5 @@ pub mod Sleepers
 pub mod Asleep
 pub mod Examples
 pub mod NotEmpty
+pub mod Checked
+pub mod TablesOnly

@@ -4,22 +4,28 @@ use Prim.Native.Nat.{ℕ, _<_, _≤_}
 use native.Mathlib.Omega.{arith}
 use mathlib.Core.Path.{_≡_, refl, sym, ap, _∙_}
 use mathlib.Core.Bool.{Bool, true, false, not, _||_, cond, false≢true}
-use mathlib.Core.List.{List, map}
+use mathlib.Core.List.{List, _∷_, map}
+use borrow.Author.Tests.{eq-eqb}
 use lib.ListN.{length, getD, drop, length-drop}
 use lib.Seq.{sets, take-all}
 use Rattle.tables.specs.declared.Table.{Table}
-use Rattle.tables.specs.declared.Transfer.the-variants.{Load}
+use Rattle.tables.specs.declared.Transfer.the-variants.{Idle, Load}
 use Rattle.tables.specs.Tables.{Three, numberOf, sizeOf, wordsOf, withTable}
-use Rattle.tables.specs.Port.{Tabled, tabled, isOpen, dataCount, rightOf, storedIn, writtenOf}
+use Rattle.tables.specs.declared.Order.the-variants.{Writing}
+use Rattle.tables.specs.Bounds.{soundOf as soundWords}
+use Rattle.tables.specs.Command.{heardOf as orderHeard}
+use Rattle.tables.specs.Port.{Tabled, tabled, withTransfer, isOpen, closeOf, dataCount, obeyOf, tablesAfter, commandOf, rightOf, storedIn, writtenOf}
+use Rattle.tables.proofs.Kept.{command-sound, command-load}
 use Rattle.tables.proofs.Limits.{sound-transfer, LoadIn, load-in}
 use Rattle.tables.proofs.Gathering.{part-keeps, load-taken, load-refused}
 use Rattle.rules.specs.declared.Pod.{Pod}
 use Rattle.rules.specs.State.{withWords, isClosed, restful, soundPod}
-use Rattle.rules.specs.World.{World, Call, dataIn, withPod, step, final}
+use Rattle.rules.specs.Calls.{commandCall}
+use Rattle.rules.specs.World.{World, Call, command as word, dataIn, withPod, step, final}
 use Rattle.rules.specs.Demands.{Fit, LoadWhole, LoadCut}
 use Rattle.rules.proofs.Pick.{split, and-false, or-true}
 use Rattle.rules.proofs.Bounds.{PodIn, in-pod, pod-in}
-use Rattle.rules.proofs.Written.{portOf, laid, Ready, final-written, written-ready}
+use Rattle.rules.proofs.Written.{portOf, laid, Ready, words-clear, on-words, final-written, written-ready}
 use Rattle.rules.proofs.Restarts.{same-tables}
 
 or-false : (a : Bool) → (a || false) ≡ a
@@ -56,18 +62,19 @@ module _ (w : World) (t : Table) (n : ℕ) (xs : List ℕ) (h : Fit w) (opened :
     data-words = ap (sets (wordsOf t (w .tables)) (getD xs 1 0)) (take-all (dataCount n) (drop 3 xs) (simp length-drop (omega arith)))
 
     -- judged with its last word
-    whole-load : (final w (map dataIn xs) .tables ≡ cond right (withTable t (storedIn n xs (wordsOf t (w .tables))) (w .tables)) (w .tables))
-        × (final w (map dataIn xs) .pod .words .error ≡ (w .pod .words .error || not right))
+    whole-load : final w (map dataIn xs)
+        ≡ laid (tabled (record { error = w .pod .words .error || not right; transfer = Idle; load = sets (w .pod .words .load) 0 xs; places = w .pod .words .places; given = w .pod .words .given })
+        (cond right (withTable t (storedIn n xs (wordsOf t (w .tables))) (w .tables)) (w .tables))) w
     whole-load =
         let least = load-bounds .least in
         let room : n ≤ length (w .pod .words .load) = omega (arith, load-bounds .most, h .load) in
         split right
         (λ e.
         let so = words-written ∙ ap (λ (d : Tabled). laid d w) (load-taken t n (portOf w) opened xs whole least room e) in
-        (rw (so, e, data-words), rw (so, e, or-false (w .pod .words .error))))
+        rw (so, e, data-words, or-false (w .pod .words .error)))
         (λ e.
         let so = words-written ∙ ap (λ (d : Tabled). laid d w) (load-refused t n (portOf w) opened xs whole least room e) in
-        (rw (so, e), rw (so, e, or-true (w .pod .words .error))))
+        rw (so, e, or-true (w .pod .words .error)))
 
   -- cut short, it has changed the words of the state alone
   module _ (part : length xs < n) where
@@ -87,9 +94,34 @@ module _ (w : World) (t : Table) (n : ℕ) (xs : List ℕ) (h : Fit w) (opened :
       λ other. ap (λ (v : World). step v c .world .tables) part-world ∙ same-tables w cut (h .sound) cut-sound refl c other,
     )
 
+-- ---- from the command word on
+
+module _ (w : World) (x : ℕ) (t : Table) (n : ℕ) (h : Fit w) (on : w .pod .initialised ≡ true) (asks : orderHeard true x ≡ Writing t n) where
+  -- the table port with the load open
+  abbrev opening : Tabled
+  opening = tabled (withTransfer (Load t n 0) (closeOf (w .pod .words))) (w .tables)
+
+  is-opening : commandOf true x (portOf w) ≡ opening
+  unfolding commandOf obeyOf tablesAfter
+  is-opening = rw asks
+
+  word-opens : step w (word x) .world ≡ laid opening w
+  unfolding step commandCall
+  word-opens = rw (eq-eqb _ _ (words-clear (w .tables) (w .pod) (h .tables) (h .sound)), on, is-opening)
+
+  opening-fit : Fit (laid opening w)
+  opening-fit =
+      let p = pod-in (w .pod) (h .sound) in
+      let sound : soundWords (opening .words) ≡ true = rw is-opening at (command-sound true x (portOf w) (p .words)) in
+      let long : length (opening .words .load) ≡ length (w .pod .words .load) = rw is-opening at (command-load true x (portOf w)) in
+      record { tables = h .tables; sound = in-pod (on-words (w .pod) (opening .words) p on sound); load = long ∙ h .load }
+
 -- a whole load: exactly the addressed words, or nothing and message error, over any table, any N and any words
 pub load-whole : LoadWhole
-load-whole w t n xs h opened whole = whole-load w t n xs h opened whole
+unfolding final closeOf
+load-whole w x t n xs h on asks whole =
+    ap (λ (v : World). final v (map dataIn xs)) (word-opens w x t n h on asks)
+    ∙ whole-load (laid (opening w x t n h on asks) w) t n xs (opening-fit w x t n h on asks) refl whole
 
 -- a load cut anywhere, by any call: the tables are as if no word of it had come
 pub load-cut : LoadCut

@@ -13,6 +13,7 @@ use Rattle.params.specs.declared.Params.{Params}
 use Rattle.packets.specs.declared.Command.{Command}
 use Rattle.packets.specs.declared.Command.the-variants as command
 use Rattle.tables.specs.declared.Table.the-variants.{Five}
+use Rattle.tables.specs.declared.Order.the-variants.{Writing}
 use Rattle.tables.specs.declared.Transfer.the-variants.{Load}
 use Rattle.tables.specs.Tables.{Three, three, numberOf as tables-numberOf, sizeOf, starts}
 use Rattle.rules.specs.State.{withRing, withPipe}
@@ -110,6 +111,7 @@ pub record NotEmpty : Type 0 where
   -- a load is open, one is taken and one is not
   pub fit : Fit loading
   pub load : loading .pod .words .transfer ≡ Load Five 4 0
+  pub order : heardOf (loading .pod .initialised) 0x0A04 ≡ Writing Five 4
   pub taken : rightOf (sizeOf Five) (tables-numberOf Five) 4 (5 ∷ 63 ∷ 1 ∷ 9 ∷ []) ≡ true
   pub not-taken : rightOf (sizeOf Five) (tables-numberOf Five) 4 (5 ∷ 64 ∷ 1 ∷ 9 ∷ []) ≡ false
   -- a packet is damaged by its length, one by its CRC
@@ -142,8 +144,9 @@ not-empty =
       params = λ e. false≢true (sym (ap (λ (q : Params). getD (q .written) 0 false) e));
       words = λ e. let z : _≡_ {A = ℕ} 7 9 = ap (λ (t : Three). getD (t .five) 0 0) e in omega arith;
       gathered = λ e. let z : _≡_ {A = ℕ} 7 9 = ap (λ (l : List ℕ). getD l 3 0) e in omega arith;
-      fit = record { priority = refl; ordinary = refl; tables = refl; sound = refl; load = refl };
+      fit = record { tables = refl; sound = refl; load = refl };
       load = refl;
+      order = refl;
       taken = refl;
       not-taken = refl;
       short = refl;

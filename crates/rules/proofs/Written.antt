@@ -44,7 +44,8 @@ data-step : (w : World) (x : ℕ) → Ready w → step w (dataIn x) .world ≡ l
 unfolding step dataInCall
 data-step w x h = rw (eq-eqb _ _ (words-clear (w .tables) (w .pod) (h .tables) (in-pod (h .pod))))
 
-on-words : (p : Pod) (v : Words) → PodIn p → p .initialised ≡ true → soundWords v ≡ true → PodIn (withWords v p)
+-- other table words in an initialised pod
+pub on-words : (p : Pod) (v : Words) → PodIn p → p .initialised ≡ true → soundWords v ≡ true → PodIn (withWords v p)
 unfolding restful
 on-words p v h on k =
     record { priority = h .priority; ordinary = h .ordinary; params = h .params; fields = h .fields; pipe = h .pipe; words = k; rest = rw on }

@@ -19,15 +19,18 @@ use Rattle.packets.specs.Answers.{valueAnswer}
 use Rattle.params.specs.Rows.{rowOf}
 use Rattle.params.specs.Rules.{isId}
 use Rattle.tables.specs.declared.Table.{Table}
-use Rattle.tables.specs.declared.Transfer.the-variants.{Load}
+use Rattle.tables.specs.declared.Order.the-variants.{Restart, Writing}
+use Rattle.tables.specs.declared.Transfer.the-variants.{Idle, Load}
 use Rattle.tables.specs.Tables.{numberOf, sizeOf, Three, starts, wordsOf, withTable}
-use Rattle.tables.specs.Port.{rightOf, storedIn}
-use Rattle.rules.specs.State.{ringOf, soundPod}
+use Rattle.tables.specs.Command.{heardOf}
+use Rattle.tables.specs.Port.{isOpen, rightOf, storedIn}
+use Rattle.rules.specs.State.{withWords, ringOf, soundPod}
 use Rattle.rules.specs.Obey.{shut}
-use Rattle.rules.specs.Refusals.{Said, refused, storeSized, tablesSized}
-use Rattle.rules.specs.World.{World, Call, packet, dataIn, roomOf, Told, told, Stepped, stepped, withPod, storeIn, isRefused, step, final, run, powered}
+use Rattle.rules.specs.Refusals.{Said, refused, tablesSized}
+use Rattle.rules.specs.World.{World, Call, packet, command as word, dataIn, roomOf, Told, told, Stepped, stepped, withPod, withTables, storeIn, isRefused, step, final, run, powered}
 use Rattle.rules.specs.Rows.{holds}
-use Rattle.rules.specs.History.{Waiting, succeeded, historyOf, waitingFrom, nothingWaits, timeoutsFrom, valueFrom}
+use Rattle.rules.specs.Checks.{Answers, errored}
+use Rattle.rules.specs.History.{Waiting, succeeded, begins, historyOf, waitingFrom, nothingWaits, timeoutsFrom, valueFrom}
 use Rattle.rules.specs.Pairs.{Accepts, ShutsDown, Near, Asleep, tells, Event, past}
 
 -- ---- 1. "Any packet, word, sample or state may arrive. Each is answered, or refused by a number in document 01"
@@ -52,22 +55,29 @@ KeptSound = (p o : List ℕ) (t : Three) (cs : List Call) → soundPod (final (p
 
 -- ---- 2. "Answers, tables, waiting blocks and frames are exactly what document 01 takes from those papers."
 
--- a world in which no row up to 3 holds
+-- a world in which no row that applies to a table word holds
 pub record Fit (w : World) : Type 0 where
-  pub priority : length (w .priority) ≡ 4096
-  pub ordinary : length (w .ordinary) ≡ 32768
   pub tables : tablesSized (w .tables) ≡ true
   pub sound : soundPod (w .pod) ≡ true
   -- the load's array has its length
   pub load : length (w .pod .words .load) ≡ 64
 
--- "A table load counts when its last word is in and every check passes, and then changes the addressed words and no other."
+-- the world after a load of these words: where every check passes the addressed words of its table are new, else message error is
+-- set, as it is where a transfer was cut; the load is closed, and all else is as it was
+abbrev pub loaded : Table → ℕ → List ℕ → World → World
+loaded t n xs w =
+    let right = rightOf (sizeOf t) (numberOf t) n xs in
+    let words = w .pod .words in
+    withTables (cond right (withTable t (storedIn n xs (wordsOf t (w .tables))) (w .tables)) (w .tables))
+    (withWords (record { error = (words .error || isOpen (words .transfer)) || not right; transfer = Idle; load = sets (words .load) 0 xs; places = words .places; given = words .given }) (w .pod))
+    w
+
+-- "A table load counts when its last word is in and every check passes, and then changes the addressed words and no other.":
+-- from its command word on, whatever transfer was open
 abbrev pub LoadWhole : Type 0
 LoadWhole =
-    (w : World) (t : Table) (n : ℕ) (xs : List ℕ) → Fit w → w .pod .words .transfer ≡ Load t n 0 → length xs ≡ n
-    → (final w (map dataIn xs) .tables
-    ≡ cond (rightOf (sizeOf t) (numberOf t) n xs) (withTable t (storedIn n xs (wordsOf t (w .tables))) (w .tables)) (w .tables))
-    × (final w (map dataIn xs) .pod .words .error ≡ (w .pod .words .error || not (rightOf (sizeOf t) (numberOf t) n xs)))
+    (w : World) (x : ℕ) (t : Table) (n : ℕ) (xs : List ℕ) → Fit w → w .pod .initialised ≡ true → heardOf true x ≡ Writing t n → length xs ≡ n
+    → final w (word x ∷ map dataIn xs) ≡ loaded t n xs w
 
 -- a load cut short leaves nothing behind: whatever call but a data word comes next, the tables are as if no word had come
 abbrev pub LoadCut : Type 0
@@ -75,6 +85,22 @@ LoadCut =
     (w : World) (t : Table) (n : ℕ) (xs : List ℕ) (c : Call) → Fit w → w .pod .words .transfer ≡ Load t n 0 → length xs < n
     → (final w (map dataIn xs) .tables ≡ w .tables)
     × (((x : ℕ) → c ≡ dataIn x → ⊥) → step (final w (map dataIn xs)) c .world .tables ≡ step w c .world .tables)
+
+-- ".. and no other": power on, an accepted Initialise, a data word written and the command word "tables to their starts" apart, a
+-- call leaves the tables as they are
+abbrev pub TablesOnly : Type 0
+TablesOnly =
+    (w : World) (c : Call) → begins c (step w c .told) ≡ false
+    → ((x : ℕ) → c ≡ dataIn x → ⊥)
+    → ((x : ℕ) → c ≡ word x → heardOf (w .pod .initialised) x ≡ Restart → ⊥)
+    → step w c .world .tables ≡ w .tables
+
+-- "Checks in this order": a packet that is not refused is answered the error of the first check that fails, and where none does
+-- a command is answered without error, at the packet table's length
+abbrev pub PacketAnswered : Type 0
+PacketAnswered =
+    (w : World) (b room : List ℕ) → isRefused (step w (packet b room) .told .said) ≡ false
+    → Answers (readOf b) (w .pod) room (step w (packet b room) .told)
 
 -- a packet that is damaged: under 4 bytes or its CRC wrong
 abbrev pub damaged : List ℕ → Bool
@@ -85,6 +111,12 @@ abbrev pub Damage : Type 0
 Damage =
     (w : World) (b room : List ℕ) → damaged b ≡ true
     → step w (packet b room) .world ≡ cond (isRefused (step w (packet b room) .told .said)) w (withPod (shut (w .pod)) w)
+
+-- and so does every packet that gets an error answer: a field out of its bounds, a refused write, nothing waiting
+abbrev pub ErrorUnchanged : Type 0
+ErrorUnchanged =
+    (w : World) (b room : List ℕ) → errored (step w (packet b room) .told) ≡ true
+    → step w (packet b room) .world ≡ withPod (shut (w .pod)) w
 
 -- the waiting blocks are, in order and byte for byte, those put since Initialise less those acknowledged
 abbrev pub BlocksAreHistory : Type 0

@@ -5,6 +5,7 @@ pub mod Calls
 pub mod World
 pub mod History
 pub mod Rows
+pub mod Checks
 pub mod Pairs
 pub mod Demands
 pub mod Shown

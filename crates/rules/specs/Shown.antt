@@ -16,7 +16,7 @@ use Rattle.tables.specs.Tables.{numberOf, starts}
 use Rattle.tables.specs.Port.{dataCount}
 use Rattle.rules.specs.State.{freshFields}
 use Rattle.rules.specs.Refusals.{Said, refused, done, bytes, word}
-use Rattle.rules.specs.World.{World, Call, packet, command, dataIn, status, samples, byte, timeout, step, final, powered}
+use Rattle.rules.specs.World.{World, Call, packet, command, dataIn, dataOut, status, samples, byte, timeout, step, final, powered}
 
 -- "a pod just initialised with flags 0", from power on
 unfoldable pub justInitialised : World
@@ -34,12 +34,20 @@ wordIn (word w) = w ∷ []
 abbrev pub statusAfter : List Call → List ℕ
 statusAfter cs = wordIn (step (final justInitialised cs) status .told .said)
 
--- an open transfer: 0 for a load or 1 for a read, the table, the count of data words
+-- the words that some calls on such a pod say
+abbrev pub wordsFrom : World → List Call → List ℕ
+wordsFrom w [] = []
+wordsFrom w (c ∷ cs) = wordIn (step w c .told .said) ++ wordsFrom (step w c .world) cs
+
+abbrev pub wordsOut : List Call → List ℕ
+wordsOut cs = wordsFrom justInitialised cs
+
+-- an open transfer: 0 for a load or 1 for a read, the table, the count of data words, how many words along
 abbrev pub transferShown : Transfer → List ℕ
 transferShown Idle = []
 transferShown Address = []
-transferShown (Load t n k) = 0 ∷ numberOf t ∷ dataCount n ∷ []
-transferShown (Read t n k at) = 1 ∷ numberOf t ∷ dataCount n ∷ []
+transferShown (Load t n k) = 0 ∷ numberOf t ∷ dataCount n ∷ k ∷ []
+transferShown (Read t n k at) = 1 ∷ numberOf t ∷ dataCount n ∷ k ∷ []
 
 abbrev pub transferAfter : List Call → List ℕ
 transferAfter cs = transferShown (final justInitialised cs .pod .words .transfer)
@@ -60,6 +68,10 @@ timeouts (suc n) = byte 0 ∷ timeout ∷ timeouts n
 abbrev pub countAfter : ℕ → ℕ
 countAfter n = getD (framesAfter (timeouts n)) 0 0 / 16
 
+-- a read of four words from table 5
+abbrev pub reading : List Call
+reading = command 0xCA04 ∷ dataOut ∷ dataOut ∷ dataOut ∷ dataOut ∷ []
+
 -- a load of four words to table 5
 abbrev pub load : ℕ → ℕ → ℕ → ℕ → List Call
 load a b c d = command 0x0A04 ∷ dataIn a ∷ dataIn b ∷ dataIn c ∷ dataIn d ∷ []
@@ -78,12 +90,17 @@ shown x =
     line (crcOf [] ∷ []) (0xFFFF ∷ [])
     ∷ line (crcOf (0xFF ∷ []) ∷ []) (0xFF00 ∷ [])
     ∷ line (crcOf (0xFF ∷ 0xFF ∷ []) ∷ []) (0x0000 ∷ [])
-    -- P4: 8000 is stop; P5: 0000 has even ones and sets message error
+    -- P4: 8000 is stop, "no more than closing a transfer": alone, with a load open, after a load
     ∷ line (statusAfter (command 0x8000 ∷ [])) (0 ∷ [])
+    ∷ line (transferAfter (command 0x0A04 ∷ command 0x8000 ∷ []) ++ statusAfter (command 0x0A04 ∷ command 0x8000 ∷ [])) (2 ∷ [])
+    ∷ line (fiveAfter (load 5 63 1 x ++ (command 0x8000 ∷ [])) ++ statusAfter (load 5 63 1 x ++ (command 0x8000 ∷ []))) (replicate 63 0 ++ (x ∷ 0 ∷ []))
+    -- P5: 0000 has even ones and sets message error
     ∷ line (statusAfter (command 0x0000 ∷ [])) (2 ∷ [])
-    -- P6: 0A04 opens a load of one word to table 5; P7: CA04 reads one
-    ∷ line (transferAfter (command 0x0A04 ∷ [])) (0 ∷ 5 ∷ 1 ∷ [])
-    ∷ line (transferAfter (command 0xCA04 ∷ [])) (1 ∷ 5 ∷ 1 ∷ [])
+    -- P6: 0A04 opens a load of one word to table 5; P7: CA04 reads one: the three header words and the word
+    ∷ line (transferAfter (command 0x0A04 ∷ [])) (0 ∷ 5 ∷ 1 ∷ 0 ∷ [])
+    ∷ line (transferAfter (command 0xCA04 ∷ [])) (1 ∷ 5 ∷ 1 ∷ 0 ∷ [])
+    ∷ line (wordsOut reading ++ statusAfter reading) (5 ∷ 0 ∷ 1 ∷ 0 ∷ 0 ∷ [])
+    ∷ line (wordsOut (load 5 0 1 x ++ reading)) (5 ∷ 0 ∷ 1 ∷ x ∷ [])
     -- P8: load 5, 63, 1, x is taken; P9: 5, 64, 1, x is not
     ∷ line (fiveAfter (load 5 63 1 x) ++ statusAfter (load 5 63 1 x)) (replicate 63 0 ++ (x ∷ 0 ∷ []))
     ∷ line (fiveAfter (load 5 64 1 x) ++ statusAfter (load 5 64 1 x)) (replicate 64 0 ++ (2 ∷ []))
