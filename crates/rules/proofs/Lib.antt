@@ -27,3 +27,4 @@ pub mod Sleepers
 pub mod Asleep
 pub mod Examples
 pub mod NotEmpty
+pub mod Shows

@@ -33,7 +33,7 @@ use Rattle.rules.specs.declared.Reply.the-variants.{Block}
 use Rattle.rules.specs.State.{withExchange, ringOf, remainingOf, freshPod}
 use Rattle.rules.specs.Obey.{obeyed, failed, shut, initialisedPod, initialiseRule, statusRule, updateRule, writeRule, readBy, readRule, receiveRule, shutdownRule, ruleOf, isInitialise, obeyOf}
 use Rattle.rules.specs.Calls.{heardBy, heardOf}
-use Rattle.rules.specs.History.{opens, exchangeBy, asksInitialise, acknowledged}
+use Rattle.rules.specs.History.{opens, exchangeBy, asksInitialise, receives, acknowledged}
 use Rattle.rules.proofs.Pick.{by-test, split, and-false}
 use Rattle.rules.proofs.Bounds.{PodIn}
 use Rattle.rules.proofs.Fares.{Arrays, blocksBoth, Fares, acknowledged-fares}
@@ -133,11 +133,6 @@ read-fares (inr v) id p =
 
 over-none : {n : ℕ} → eqb n 0 ≡ false → 0 < n
 over-none {n} e = let some = eqb-false n 0 e in omega arith
-
--- the command that receives a block of a store
-abbrev receives : Store → Command
-receives Priority = command.Priority
-receives Ordinary = command.Data
 
 opened-fares : (s : Store) (p : Pod) → 0 < ringOf s (shut p) .waiting → 0 < remainingOf s (p .fields)
     → By (receives s) p (obeyed (Block s) (withExchange (Receive s) (shut p)))

@@ -1,11 +1,11 @@
 -- What the owner asked for, said of the rules. Each name is a statement; proofs/ has a proof of each.
 -- Assumes nothing.
-use Prim.Native.Nat.{ℕ, _+_, _-_, _<_, _≤_, min}
+use Prim.Native.Nat.{ℕ, _+_, _-_, _/_, _<_, _≤_, min}
 use mathlib.Core.Path.{_≡_}
 use mathlib.Core.Logic.{_↔_}
 use mathlib.Core.Bool.{Bool, true, false, not, _&&_, _||_, cond}
 use mathlib.Core.List.{List, [], _∷_, map}
-use lib.ListN.{length}
+use lib.ListN.{length, getD}
 use lib.Seq.{sets}
 use lib.Dec.{eqb, ltb}
 use lib.IntN.{ℤ}
@@ -25,7 +25,7 @@ use Rattle.tables.specs.Port.{rightOf, storedIn}
 use Rattle.rules.specs.State.{ringOf, soundPod}
 use Rattle.rules.specs.Obey.{shut}
 use Rattle.rules.specs.Refusals.{Said, refused, storeSized, tablesSized}
-use Rattle.rules.specs.World.{World, Call, packet, dataIn, Told, told, Stepped, stepped, withPod, storeIn, isRefused, step, final, run, powered}
+use Rattle.rules.specs.World.{World, Call, packet, dataIn, samples, Told, told, Stepped, stepped, withPod, storeIn, isRefused, step, final, run, powered}
 use Rattle.rules.specs.Rows.{holds}
 use Rattle.rules.specs.History.{Waiting, succeeded, historyOf, waitingFrom, nothingWaits, timeoutsFrom, valueFrom}
 use Rattle.rules.specs.Pairs.{Accepts, ShutsDown, Near, Asleep, tells, Event, past}
@@ -103,6 +103,13 @@ abbrev pub TimeoutsAreHistory : Type 0
 TimeoutsAreHistory =
     (p o : List ℕ) (t : Three) (cs : List Call)
     → final (powered p o t) cs .pod .pipe .timeouts ≡ min (timeoutsFrom 0 (historyOf (powered p o t) cs)) 15
+
+-- and each answered samples call shows it: "input timeouts in 0.7-4"
+abbrev pub FrameShowsTimeouts : Type 0
+FrameShowsTimeouts =
+    (p o : List ℕ) (t : Three) (cs : List Call) (k : ℕ) (xs : List ℕ)
+    → isRefused (step (final (powered p o t) cs) (samples k xs) .told .said) ≡ false
+    → getD (step (final (powered p o t) cs) (samples k xs) .told .bytes) 0 0 / 16 ≡ min (timeoutsFrom 0 (historyOf (powered p o t) cs)) 15
 
 -- a parameter read, answered without error, gives what was last written since Initialise, else the start
 abbrev pub ReadIsWritten : Type 0

@@ -112,7 +112,11 @@ begins (samples k xs) t = false
 begins (byte b) t = false
 begins timeout t = false
 
--- the code of a receive from a store
+-- the command that receives a block of a store, and its code
+abbrev pub receives : Store → Command
+receives Priority = command.Priority
+receives Ordinary = command.Data
+
 abbrev pub receiveCode : Store → ℕ
 receiveCode Priority = 0x95
 receiveCode Ordinary = 0x96

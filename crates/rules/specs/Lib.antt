@@ -8,3 +8,4 @@ pub mod Rows
 pub mod Pairs
 pub mod Demands
 pub mod Shown
+pub mod Replies
