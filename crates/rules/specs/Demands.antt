@@ -27,7 +27,8 @@ use Rattle.rules.specs.Obey.{shut}
 use Rattle.rules.specs.Refusals.{Said, refused, storeSized, tablesSized}
 use Rattle.rules.specs.World.{World, Call, packet, dataIn, samples, Told, told, Stepped, stepped, withPod, storeIn, isRefused, step, final, run, powered}
 use Rattle.rules.specs.Rows.{holds}
-use Rattle.rules.specs.History.{Waiting, succeeded, historyOf, waitingFrom, nothingWaits, timeoutsFrom, valueFrom}
+use Rattle.rules.specs.Replies.{answering, receivedFrom, statusFrom}
+use Rattle.rules.specs.History.{Waiting, succeeded, historyOf, receives, waitingFrom, nothingWaits, timeoutsFrom, valueFrom}
 use Rattle.rules.specs.Pairs.{Accepts, ShutsDown, Near, Asleep, tells, Event, past}
 
 -- ---- 1. "Any packet, word, sample or state may arrive. Each is answered, or refused by a number in document 01"
@@ -93,10 +94,19 @@ BlocksAreHistory =
     → blocksIn (capacityOf s) (ringOf s (final (powered p o t) cs .pod)) (storeIn s (final (powered p o t) cs))
     ≡ waitingFrom s nothingWaits (historyOf (powered p o t) cs) .blocks
 
--- and as many wait as the state says, which is what Status shows
-abbrev pub CountIsBlocks : Type 0
-CountIsBlocks =
-    (s : Store) (w : World) → ringOf s (w .pod) .waiting ≡ length (blocksIn (capacityOf s) (ringOf s (w .pod)) (storeIn s w))
+-- "A kept block is sent again at the next receive": a receive is answered with the first of them, or an error number
+abbrev pub ReceiveIsHistory : Type 0
+ReceiveIsHistory =
+    (s : Store) (p o : List ℕ) (t : Three) (cs : List Call) (b room : List ℕ) → readOf b ≡ Asked (receives s)
+    → isRefused (step (final (powered p o t) cs) (packet b room) .told .said) ≡ false
+    → step (final (powered p o t) cs) (packet b room) .told ≡ answering room (receivedFrom s (historyOf (powered p o t) cs))
+
+-- "mode, flags 2, priority blocks waiting 2, ordinary blocks waiting 4, request 0, eight ids": Status shows those of the history
+abbrev pub StatusIsHistory : Type 0
+StatusIsHistory =
+    (p o : List ℕ) (t : Three) (cs : List Call) (b room : List ℕ) → readOf b ≡ Asked command.Status
+    → isRefused (step (final (powered p o t) cs) (packet b room) .told .said) ≡ false
+    → step (final (powered p o t) cs) (packet b room) .told ≡ answering room (statusFrom (historyOf (powered p o t) cs))
 
 -- the timeout count is the timeouts since Initialise that sent something, up to 15
 abbrev pub TimeoutsAreHistory : Type 0

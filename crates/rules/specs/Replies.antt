@@ -20,7 +20,8 @@ use Rattle.params.specs.Rules.{filter}
 use Rattle.rules.specs.declared.Exchange.{Exchange}
 use Rattle.rules.specs.declared.Exchange.the-variants.{Closed}
 use Rattle.rules.specs.State.{remainingOf, withRemaining, freshFields}
-use Rattle.rules.specs.World.{Call, power, packet, deadline, put, command, dataIn, dataOut, status, samples, byte, timeout, Told, isRefused}
+use Rattle.rules.specs.Refusals.{bytes}
+use Rattle.rules.specs.World.{Call, power, packet, deadline, put, command, dataIn, dataOut, status, samples, byte, timeout, Told, told, isRefused}
 use Rattle.rules.specs.History.{Entry, succeeded, exchangeAfter, begins, receiveCode, acknowledged, waitingFrom, nothingWaits}
 
 -- ---- the fields, whether the pod is initialised, the parameters written
@@ -127,6 +128,10 @@ writtenFrom id m [] = m
 writtenFrom id m (e ∷ es) = writtenFrom id (cond (begins (e .call) (e .told)) false (markBy id (e .call) (e .told) m)) es
 
 -- ---- what packets are answered
+
+-- "An answer is written from the start of the answer room; the rest of the room is kept."
+abbrev pub answering : List ℕ → List ℕ → Told
+answering room answer = told (bytes (length answer)) (sets room 0 answer)
 
 -- "mode, flags 2, priority blocks waiting 2, ordinary blocks waiting 4, request 0, eight ids: the asked parameters not written
 -- since Initialise, rising, then zeros"
