@@ -85,7 +85,7 @@ module _ (p o : List ℕ) (t : Three) (cs : List Call) where
       let fresh = powered-fresh p o t in
       fielded (powered p o t) cs Closed freshFields (powered-good p o t) (ap (λ (q : Pod). q .exchange) fresh) (ap (λ (q : Pod). q .fields) fresh)
 
-  awake-is : final (powered p o t) cs .pod .initialised ≡ awakeFrom false (historyOf (powered p o t) cs)
+  pub awake-is : final (powered p o t) cs .pod .initialised ≡ awakeFrom false (historyOf (powered p o t) cs)
   unfolding freshPod
   awake-is = awoken (powered p o t) cs false (powered-good p o t) (ap (λ (q : Pod). q .initialised) (powered-fresh p o t))
 
@@ -97,7 +97,7 @@ module _ (p o : List ℕ) (t : Three) (cs : List Call) where
 
 -- ---- what a packet is told
 
-packet-told : (w : World) (b room : List ℕ) (r : Parsed) → readOf b ≡ r → isRefused (step w (packet b room) .told .said) ≡ false
+pub packet-told : (w : World) (b room : List ℕ) (r : Parsed) → readOf b ≡ r → isRefused (step w (packet b room) .told .said) ≡ false
     → step w (packet b room) .told ≡ answering room (spokenBytes (heardOf r (w .pod) .spoken) (heardOf r (w .pod) .pod) (w .priority) (w .ordinary))
 unfolding answeredBy answeredWith
 packet-told w b room r asks ok =

@@ -219,4 +219,4 @@ pub powered-in : (p o : List ℕ) (t : Three) → PodIn (powered p o t .pod)
 powered-in p o t = step-in _ power fresh-in
 
 pub kept-sound : KeptSound
-kept-sound p o t cs = in-pod (final-in (powered p o t) cs (powered-in p o t))
+kept-sound = ((λ p o t. in-pod (powered-in p o t)), sound-step)

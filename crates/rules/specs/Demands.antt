@@ -27,7 +27,7 @@ use Rattle.rules.specs.Obey.{shut}
 use Rattle.rules.specs.Refusals.{Said, refused, storeSized, tablesSized}
 use Rattle.rules.specs.World.{World, Call, packet, dataIn, samples, Told, told, Stepped, stepped, withPod, storeIn, isRefused, step, final, run, powered}
 use Rattle.rules.specs.Rows.{holds}
-use Rattle.rules.specs.Replies.{answering, receivedFrom, statusFrom}
+use Rattle.rules.specs.Replies.{answering, readFrom, receivedFrom, statusFrom}
 use Rattle.rules.specs.History.{Waiting, succeeded, historyOf, receives, waitingFrom, nothingWaits, timeoutsFrom, valueFrom}
 use Rattle.rules.specs.Pairs.{Accepts, ShutsDown, Near, Asleep, tells, Event, past}
 
@@ -47,9 +47,11 @@ RefusedUnchanged = (w : World) (c : Call) (n : ℕ) → step w c .told .said ≡
 abbrev pub RefusedRoom : Type 0
 RefusedRoom = (w : World) (b room : List ℕ) (n : ℕ) → step w (packet b room) .told .said ≡ refused n → step w (packet b room) .told .bytes ≡ room
 
--- from power on no call leaves the bounds, whatever the world it is made in
+-- "Bounds of the state": a pod from power is within them, and no call leaves them
 abbrev pub KeptSound : Type 0
-KeptSound = (p o : List ℕ) (t : Three) (cs : List Call) → soundPod (final (powered p o t) cs .pod) ≡ true
+KeptSound =
+    ((p o : List ℕ) (t : Three) → soundPod (powered p o t .pod) ≡ true)
+    × ((w : World) (c : Call) → soundPod (w .pod) ≡ true → soundPod (step w c .world .pod) ≡ true)
 
 -- ---- 2. "Answers, tables, waiting blocks and frames are exactly what document 01 takes from those papers."
 
@@ -87,7 +89,8 @@ Damage =
     (w : World) (b room : List ℕ) → damaged b ≡ true
     → step w (packet b room) .world ≡ cond (isRefused (step w (packet b room) .told .said)) w (withPod (shut (w .pod)) w)
 
--- the waiting blocks are, in order and byte for byte, those put since Initialise less those acknowledged
+-- "put adds a block behind the others", and acknowledged "the oldest block of that store is dropped": the blocks that wait are, in
+-- order and byte for byte, those put since Initialise less those acknowledged
 abbrev pub BlocksAreHistory : Type 0
 BlocksAreHistory =
     (s : Store) (p o : List ℕ) (t : Three) (cs : List Call)
@@ -108,26 +111,25 @@ StatusIsHistory =
     → isRefused (step (final (powered p o t) cs) (packet b room) .told .said) ≡ false
     → step (final (powered p o t) cs) (packet b room) .told ≡ answering room (statusFrom (historyOf (powered p o t) cs))
 
--- the timeout count is the timeouts since Initialise that sent something, up to 15
+-- "timeout counts (they equal .. timeouts since Initialise, up to 15)", of timeouts that sent something
 abbrev pub TimeoutsAreHistory : Type 0
 TimeoutsAreHistory =
     (p o : List ℕ) (t : Three) (cs : List Call)
     → final (powered p o t) cs .pod .pipe .timeouts ≡ min (timeoutsFrom 0 (historyOf (powered p o t) cs)) 15
 
--- and each answered samples call shows it: "input timeouts in 0.7-4"
+-- "input timeouts in 0.7-4": each answered samples call shows that count
 abbrev pub FrameShowsTimeouts : Type 0
 FrameShowsTimeouts =
     (p o : List ℕ) (t : Three) (cs : List Call) (k : ℕ) (xs : List ℕ)
     → isRefused (step (final (powered p o t) cs) (samples k xs) .told .said) ≡ false
     → getD (step (final (powered p o t) cs) (samples k xs) .told .bytes) 0 0 / 16 ≡ min (timeoutsFrom 0 (historyOf (powered p o t) cs)) 15
 
--- a parameter read, answered without error, gives what was last written since Initialise, else the start
+-- "parameter read after write": a read is answered with what was last written since Initialise, else the start, or an error number
 abbrev pub ReadIsWritten : Type 0
 ReadIsWritten =
     (p o : List ℕ) (t : Three) (cs : List Call) (b room : List ℕ) (id : ℕ) → readOf b ≡ Asked (command.Read id)
-    → succeeded (step (final (powered p o t) cs) (packet b room) .told) ≡ true
-    → step (final (powered p o t) cs) (packet b room) .told .bytes
-    ≡ sets room 0 (valueAnswer 0x94 id (valueFrom id (rowOf id .start) (historyOf (powered p o t) cs)))
+    → isRefused (step (final (powered p o t) cs) (packet b room) .told .said) ≡ false
+    → step (final (powered p o t) cs) (packet b room) .told ≡ answering room (readFrom id (historyOf (powered p o t) cs))
 
 -- ---- 3. "Give both the same accepted Initialise, then the same calls .. From that Initialise's answer on, their answers and
 -- table words are equal" (and they are those of demand 2, since a run is made of its rules)

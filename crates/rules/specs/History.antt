@@ -154,7 +154,7 @@ waitingAfter s e x =
       blocks = cond (begins (e .call) (e .told)) [] (blocksBy s (e .call) (e .told) (x .exchange) (x .blocks));
     }
 
--- "those put since Initialise less those acknowledged"
+-- by all of a history: the blocks put since Initialise less those acknowledged
 unfoldable pub waitingFrom : Store → Waiting → List Entry → Waiting
 waitingFrom s x [] = x
 waitingFrom s x (e ∷ es) = waitingFrom s (waitingAfter s e x) es

@@ -1,4 +1,5 @@
--- What a list of calls and answers alone says of the fields and the parameters written, and so of what Status and a receive are answered.
+-- What a list of calls and answers alone says of the fields and the parameters written, and so what Status, a parameter read and a
+-- receive are answered.
 -- Assumes nothing.
 use Prim.Native.Nat.{ℕ, _-_}
 use mathlib.Core.Bool.{Bool, true, false, not, _&&_, _||_, cond}
@@ -14,15 +15,15 @@ use Rattle.packets.specs.declared.Parsed.{Parsed}
 use Rattle.packets.specs.declared.Parsed.the-variants.{Nothing, Error, Acknowledgement, Asked}
 use Rattle.packets.specs.declared.Report.{Report}
 use Rattle.packets.specs.Reading.{readOf}
-use Rattle.packets.specs.Answers.{errorAnswer, statusAnswer, dataAnswer}
+use Rattle.packets.specs.Answers.{errorAnswer, statusAnswer, valueAnswer, dataAnswer}
 use Rattle.params.specs.Rows.{ids, rowOf}
-use Rattle.params.specs.Rules.{filter}
+use Rattle.params.specs.Rules.{isId, filter}
 use Rattle.rules.specs.declared.Exchange.{Exchange}
 use Rattle.rules.specs.declared.Exchange.the-variants.{Closed}
 use Rattle.rules.specs.State.{remainingOf, withRemaining, freshFields}
 use Rattle.rules.specs.Refusals.{bytes}
 use Rattle.rules.specs.World.{Call, power, packet, deadline, put, command, dataIn, dataOut, status, samples, byte, timeout, Told, told, isRefused}
-use Rattle.rules.specs.History.{Entry, succeeded, exchangeAfter, begins, receiveCode, acknowledged, waitingFrom, nothingWaits}
+use Rattle.rules.specs.History.{Entry, succeeded, exchangeAfter, begins, receiveCode, acknowledged, waitingFrom, nothingWaits, valueFrom}
 
 -- ---- the fields, whether the pod is initialised, the parameters written
 
@@ -148,6 +149,12 @@ reportFrom es =
 -- the answer to a Status: "Not initialised, and not 0x90: 0x38", else that report
 unfoldable pub statusFrom : List Entry → List ℕ
 statusFrom es = cond (awakeFrom false es) (statusAnswer 0x91 (reportFrom es)) (errorAnswer 0x91 0x38)
+
+-- the answer to a parameter read: 0x38; "Ids 0 and over 12 get 0x39"; else what was last written since Initialise, or the start
+unfoldable pub readFrom : ℕ → List Entry → List ℕ
+readFrom id es =
+    cond (not (awakeFrom false es)) (errorAnswer 0x94 0x38)
+    (cond (isId id) (valueAnswer 0x94 id (valueFrom id (rowOf id .start) es)) (errorAnswer 0x94 0x39))
 
 -- the answer to a receive: 0x38; "Nothing waiting: 0x3A. Then remaining is 0: 0x3B."; else the first block that waits
 unfoldable pub receivedOf : Store → Bool → List (List ℕ) → ℕ → List ℕ
