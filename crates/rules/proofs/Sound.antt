@@ -208,12 +208,6 @@ step-in w timeout h =
 pub sound-step : (w : World) (c : Call) → soundPod (w .pod) ≡ true → soundPod (step w c .world .pod) ≡ true
 sound-step w c h = in-pod (step-in w c (pod-in (w .pod) h))
 
--- and after any calls
-pub final-in : (w : World) (cs : List Call) → PodIn (w .pod) → PodIn (final w cs .pod)
-unfolding final
-final-in w [] h = h
-final-in w (c ∷ cs) h = final-in (step w c .world) cs (step-in w c h)
-
 -- from power on the pod is in its bounds, whatever lies in the stores and the tables
 pub powered-in : (p o : List ℕ) (t : Three) → PodIn (powered p o t .pod)
 powered-in p o t = step-in _ power fresh-in

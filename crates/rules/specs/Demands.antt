@@ -15,9 +15,6 @@ use Rattle.packets.specs.declared.Fields.{Fields}
 use Rattle.packets.specs.declared.Parsed.the-variants.{Asked}
 use Rattle.packets.specs.declared.Command.the-variants as command
 use Rattle.packets.specs.Reading.{readOf, crcRight}
-use Rattle.packets.specs.Answers.{valueAnswer}
-use Rattle.params.specs.Rows.{rowOf}
-use Rattle.params.specs.Rules.{isId}
 use Rattle.tables.specs.declared.Table.{Table}
 use Rattle.tables.specs.declared.Transfer.the-variants.{Load}
 use Rattle.tables.specs.Tables.{numberOf, sizeOf, Three, wordsOf, withTable}
@@ -28,7 +25,7 @@ use Rattle.rules.specs.Refusals.{Said, refused, storeSized, tablesSized}
 use Rattle.rules.specs.World.{World, Call, packet, dataIn, samples, Told, told, Stepped, stepped, withPod, storeIn, isRefused, step, final, run, powered}
 use Rattle.rules.specs.Rows.{holds}
 use Rattle.rules.specs.Replies.{answering, readFrom, receivedFrom, statusFrom}
-use Rattle.rules.specs.History.{Waiting, succeeded, historyOf, receives, waitingFrom, nothingWaits, timeoutsFrom, valueFrom}
+use Rattle.rules.specs.History.{historyOf, receives, waitingFrom, nothingWaits, timeoutsFrom}
 use Rattle.rules.specs.Pairs.{Accepts, ShutsDown, Near, Asleep, tells, Event, past}
 
 -- ---- 1. "Any packet, word, sample or state may arrive. Each is answered, or refused by a number in document 01"
