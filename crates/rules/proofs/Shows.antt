@@ -1,12 +1,12 @@
 -- What packets and frames show is what the history says.
 -- Assumes nothing.
-use Prim.Native.Nat.{ℕ, _/_, min}
+use Prim.Native.Nat.{ℕ, _/_}
 use native.Mathlib.Omega.{arith}
 use mathlib.Core.Path.{_≡_, refl, sym, ap, _∙_}
 use mathlib.Core.Bool.{Bool, true, false, not, _&&_, cond, false≢true}
 use mathlib.Core.List.{List, [], _∷_}
 use lib.Dec.{eqb}
-use lib.ListN.{length, getD, replicate}
+use lib.ListN.{getD, replicate}
 use lib.Seq.{sets}
 use Rattle.blocks.specs.declared.Store.{Store}
 use Rattle.blocks.specs.declared.Store.the-variants.{Priority, Ordinary}
@@ -29,11 +29,11 @@ use Rattle.rules.specs.declared.Exchange.{Exchange}
 use Rattle.rules.specs.declared.Exchange.the-variants.{Closed}
 use Rattle.rules.specs.declared.Pod.{Pod}
 use Rattle.rules.specs.State.{ringOf, remainingOf, freshFields, freshPod}
-use Rattle.rules.specs.Obey.{shut, statusRule, receiveRule, ruleOf, obeyOf, reportOf}
+use Rattle.rules.specs.Obey.{statusRule, receiveRule, ruleOf, obeyOf, reportOf}
 use Rattle.rules.specs.Refusals.{lowest, stateRow, setRow, overRow}
 use Rattle.rules.specs.Calls.{Sampled, samplesCall, heardOf, replyBytes, spokenBytes, answeredWith, answeredBy}
-use Rattle.rules.specs.World.{World, Call, packet, samples, Told, told, Stepped, step, final, storeIn, byPacketed, bySampled, isRefused, powered}
-use Rattle.rules.specs.History.{historyOf, receives, receiveCode, waitingFrom, nothingWaits}
+use Rattle.rules.specs.World.{World, Call, packet, samples, told, Stepped, step, final, storeIn, bySampled, isRefused, powered}
+use Rattle.rules.specs.History.{historyOf, receives, receiveCode}
 use Rattle.rules.specs.Replies.{fieldsFrom, awakeFrom, writtenFrom, answering, reportFrom, statusFrom, receivedOf, receivedFrom}
 use Rattle.rules.specs.Demands.{FrameShowsTimeouts, ReceiveIsHistory, StatusIsHistory}
 use Rattle.rules.proofs.Pick.{by-test, split, and-left, and-right}
@@ -174,7 +174,8 @@ report-is p o t cs =
       count-is-blocks Ordinary w,
       blocks-are-history Priority p o t cs,
       blocks-are-history Ordinary p o t cs,
-      missing-are (w .pod .params) (λ id. writtenFrom id false (historyOf (powered p o t) cs)) (marks-are p o t cs))
+      missing-are (w .pod .params) (λ id. writtenFrom id false (historyOf (powered p o t) cs)) (marks-are p o t cs),
+    )
 
 pub status-is-history : StatusIsHistory
 unfolding statusFrom

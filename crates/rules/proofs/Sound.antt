@@ -38,7 +38,7 @@ use Rattle.rules.specs.State.{withWords, withRing, withRemaining, ringOf
 use Rattle.rules.specs.Obey.{shut, initialisedPod, initialiseRule, statusRule, updateRule, writeRule, readBy, readRule, receiveRule, shutdownRule, ruleOf, isInitialise, obeyOf, matches, dropFrom, settled, acknowledgedOf}
 use Rattle.rules.specs.Refusals.{lowest, roomRow, allRow, storeRow, tablesRow, stateRow, blockRow, asleepRow, fullRow}
 use Rattle.rules.specs.Calls.{Outcome, Powered, powerCall, heardOf, answeredWith, answeredBy, Packeted, packetCall, deadlineCall, Put, putCall, Worded, commandCall, dataInCall, dataOutCall, statusCall, Piping, byteCall, timeoutCall}
-use Rattle.rules.specs.World.{World, Call, power, packet, deadline, put, command as word, dataIn, dataOut, status, samples, byte, timeout, byPowered, byPut, storeIn, withStore, step, final, powered}
+use Rattle.rules.specs.World.{World, Call, power, packet, deadline, put, command as word, dataIn, dataOut, status, samples, byte, timeout, byPowered, byPut, storeIn, withStore, step, powered}
 use Rattle.rules.specs.Demands.{KeptSound}
 use Rattle.rules.proofs.Pick.{by-test, and-left, and-right}
 use Rattle.rules.proofs.Bounds.{PodIn, in-pod, pod-in}

@@ -1,7 +1,7 @@
 -- A parameter read gives what the history says was last written.
 -- Assumes nothing.
 use Prim.Native.Nat.{ℕ}
-use mathlib.Core.Path.{_≡_, refl, ap, _∙_}
+use mathlib.Core.Path.{_≡_, ap, _∙_}
 use mathlib.Core.Bool.{true, not, cond}
 use mathlib.Core.List.{List, [], _∷_}
 use lib.IntN.{ℤ}
@@ -15,7 +15,7 @@ use Rattle.rules.specs.declared.Pod.{Pod}
 use Rattle.rules.specs.State.{freshPod}
 use Rattle.rules.specs.Obey.{readBy, readRule, ruleOf, obeyOf}
 use Rattle.rules.specs.Calls.{heardOf, replyBytes, spokenBytes}
-use Rattle.rules.specs.World.{World, Call, told, step, final, powered}
+use Rattle.rules.specs.World.{World, Call, step, final, powered}
 use Rattle.rules.specs.History.{historyOf, valueFrom}
 use Rattle.rules.specs.Replies.{answering, readFrom}
 use Rattle.rules.specs.Demands.{ReadIsWritten}
@@ -46,8 +46,8 @@ unfolding freshPod readFrom
 read-is-written p o t cs b room id asks ok =
     let w = final (powered p o t) cs in
     let held : isId id ≡ true → valueAt (w .pod .params) id ≡ valueFrom id (rowOf id .start) (historyOf (powered p o t) cs) =
-        λ i. valued id i (powered p o t) cs (rowOf id .start) (powered-good p o t)
-        (ap (λ (q : Pod). valueAt (q .params) id) (powered-fresh p o t) ∙ start-value id i) in
+    λ i. valued id i (powered p o t) cs (rowOf id .start) (powered-good p o t)
+    (ap (λ (q : Pod). valueAt (q .params) id) (powered-fresh p o t) ∙ start-value id i) in
     packet-told w b room (Asked (command.Read id)) asks ok
     ∙ ap (answering room) {y = readFrom id (historyOf (powered p o t) cs)}
     (read-told id (w .pod) (w .priority) (w .ordinary) ∙ rw (awake-is p o t cs) (split (isId id) (λ i. rw (i, held i)) (λ i. rw i)))

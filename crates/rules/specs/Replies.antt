@@ -45,6 +45,7 @@ takenBy (Asked command.Shutdown) f = f
 abbrev pub lessBy : Store → Parsed → Exchange → Fields → Fields
 lessBy s r x f = cond (acknowledged s r x) (withRemaining s (remainingOf s f - 1) f) f
 
+-- the fields after a call, that exchange being open before it; power on has those "fresh from power"
 unfoldable pub fieldsBy : Call → Told → Exchange → Fields → Fields
 fieldsBy power t x f = cond (isRefused (t .said)) f freshFields
 fieldsBy (packet b room) t x f =
@@ -59,7 +60,7 @@ fieldsBy (samples k xs) t x f = f
 fieldsBy (byte b) t x f = f
 fieldsBy timeout t x f = f
 
--- the fields of the last accepted Initialise or Update, each remaining less the blocks of its store acknowledged since
+-- by all of a history: the fields of the last accepted Initialise or Update, each remaining less the blocks of its store acknowledged since
 unfoldable pub fieldsFrom : Exchange → Fields → List Entry → Fields
 fieldsFrom x f [] = f
 fieldsFrom x f (e ∷ es) = fieldsFrom (exchangeAfter (e .call) (e .told) x) (fieldsBy (e .call) (e .told) x f) es
@@ -78,6 +79,7 @@ wakesBy (Asked command.Priority) a = a
 wakesBy (Asked command.Data) a = a
 wakesBy (Asked command.Shutdown) a = false
 
+-- and so only where it is answered without error; power on has "not initialised"
 unfoldable pub awakeBy : Call → Told → Bool → Bool
 awakeBy power t a = cond (isRefused (t .said)) a false
 awakeBy (packet b room) t a = cond (succeeded t) (wakesBy (readOf b) a) a
@@ -91,7 +93,7 @@ awakeBy (samples k xs) t a = a
 awakeBy (byte b) t a = a
 awakeBy timeout t a = a
 
--- whether the last accepted of Initialise and Shutdown was an Initialise
+-- whether the last of power on and the accepted Initialises and Shutdowns was an Initialise
 unfoldable pub awakeFrom : Bool → List Entry → Bool
 awakeFrom a [] = a
 awakeFrom a (e ∷ es) = awakeFrom (awakeBy (e .call) (e .told) a) es
@@ -110,6 +112,7 @@ marksBy id (Asked command.Priority) m = m
 marksBy id (Asked command.Data) m = m
 marksBy id (Asked command.Shutdown) m = m
 
+-- and so only where it is answered without error
 unfoldable pub markBy : ℕ → Call → Told → Bool → Bool
 markBy id power t m = m
 markBy id (packet b room) t m = cond (succeeded t) (marksBy id (readOf b) m) m
@@ -164,6 +167,7 @@ receivedOf s awake blocks remaining =
     (cond (eqb remaining 0) (errorAnswer (receiveCode s) 0x3B)
     (dataAnswer (receiveCode s) (getD blocks 0 []))))
 
+-- all three being the history's
 unfoldable pub receivedFrom : Store → List Entry → List ℕ
 receivedFrom s es =
     receivedOf s (awakeFrom false es) (waitingFrom s nothingWaits es .blocks) (remainingOf s (fieldsFrom Closed freshFields es))
