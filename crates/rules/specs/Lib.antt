@@ -4,8 +4,8 @@ pub mod Refusals
 pub mod Calls
 pub mod World
 pub mod History
+pub mod Replies
 pub mod Rows
 pub mod Pairs
 pub mod Demands
 pub mod Shown
-pub mod Replies
