@@ -3,7 +3,7 @@
 use Prim.Native.Nat.{ℕ, _-_, _<_}
 use native.Mathlib.Omega.{arith}
 use mathlib.Core.Path.{_≡_, refl, sym}
-use mathlib.Core.Bool.{Bool, true, _&&_, _||_, cond, and-true}
+use mathlib.Core.Bool.{Bool, true, false, _&&_, _||_, cond, and-true}
 use mathlib.Core.List.{List, []}
 use lib.Dec.{eqb}
 use lib.ListN.{length, drop}
@@ -17,7 +17,7 @@ use Rattle.packets.specs.declared.Fields.{Fields}
 use Rattle.packets.specs.declared.Parsed.{Parsed}
 use Rattle.packets.specs.declared.Parsed.the-variants.{Acknowledgement}
 use Rattle.params.specs.Rows.{rowOf}
-use Rattle.params.specs.Rules.{isId, valueAt}
+use Rattle.params.specs.Rules.{isId, valueAt, marked}
 use Rattle.rules.specs.declared.Exchange.{Exchange}
 use Rattle.rules.specs.declared.Exchange.the-variants.{Closed, Status, Read, Receive}
 use Rattle.rules.specs.declared.Pod.{Pod}
@@ -25,6 +25,7 @@ use Rattle.rules.specs.State.{withRing, withFields, withRemaining, ringO
 use Rattle.rules.specs.Obey.{matches, dropFrom, settled, acknowledgedOf}
 use Rattle.rules.specs.Calls.{Heard, heard, silent}
 use Rattle.rules.specs.History.{exchangeBy, isReceive, receiveCode, asksInitialise, acknowledged, writtenBy}
+use Rattle.rules.specs.Replies.{takenBy, lessBy, wakesBy, marksBy}
 use Rattle.rules.proofs.Pick.{by-test, split, and-false}
 use Rattle.rules.proofs.Spoken.{spokenFine}
 
@@ -66,11 +67,22 @@ pub record Fares (r : Parsed) (p : Pod) (h : Heard) : Type 0 where
       ≡ cond (asksInitialise r && spokenFine (h .spoken)) [] (cond (acknowledged s r (p .exchange)) (drop 1 (blocksOf s p l m)) (blocksOf s p l m))
   -- the timeouts
   pub timeouts : h .pod .pipe .timeouts ≡ cond (asksInitialise r && spokenFine (h .spoken)) 0 (p .pipe .timeouts)
-  -- and the parameters
+  -- the parameters
   pub values : (id : ℕ) → isId id ≡ true
       → valueAt (h .pod .params) id
       ≡ cond (asksInitialise r && spokenFine (h .spoken)) (rowOf id .start)
       (cond (spokenFine (h .spoken)) (writtenBy id r (valueAt (p .params) id)) (valueAt (p .params) id))
+  -- the marks of those written
+  pub written : Arrays p → (id : ℕ) → isId id ≡ true
+      → marked (h .pod .params) id
+      ≡ cond (asksInitialise r && spokenFine (h .spoken)) false
+      (cond (spokenFine (h .spoken)) (marksBy id r (marked (p .params) id)) (marked (p .params) id))
+  -- the fields
+  pub fields : OpenWaits p
+      → h .pod .fields
+      ≡ cond (spokenFine (h .spoken)) (takenBy r (p .fields)) (lessBy Priority r (p .exchange) (lessBy Ordinary r (p .exchange) (p .fields)))
+  -- and whether the pod is initialised
+  pub awake : h .pod .initialised ≡ cond (spokenFine (h .spoken)) (wakesBy r (p .initialised)) (p .initialised)
   -- an open exchange of a block has its block
   pub waits : OpenWaits p → OpenWaits (h .pod)
   -- and the arrays keep their lengths
@@ -97,23 +109,37 @@ settled-blocks (Receive Priority) p h Ordinary l m = rw (dropped-is Priority p (
 settled-blocks (Receive Ordinary) p h Priority l m = rw (dropped-is Ordinary p (h .0) (h .1))
 settled-blocks (Receive Ordinary) p h Ordinary l m = rw (dropped-is Ordinary p (h .0) (h .1)) (drop-takes 128 (p .ordinary) m)
 
+-- the fields after it: the remaining of that store is one less
+less : Store → Exchange → Fields → Fields
+less s x f = cond (isReceive s x) (withRemaining s (remainingOf s f - 1) f) f
+
+settled-fields : (x : Exchange) (p : Pod) → Waits x (p .priority) (p .ordinary) (p .fields)
+    → settled x p .fields ≡ less Priority x (less Ordinary x (p .fields))
+unfolding settled less
+settled-fields Closed p h = refl
+settled-fields Status p h = refl
+settled-fields Read p h = refl
+settled-fields (Receive Priority) p h = rw (dropped-is Priority p (h .0) (h .1))
+settled-fields (Receive Ordinary) p h = rw (dropped-is Ordinary p (h .0) (h .1))
+
 -- what no acknowledgement touches
 record Beside (p q : Pod) : Type 0 where
   params : q .params ≡ p .params
   words : q .words ≡ p .words
   pipe : q .pipe ≡ p .pipe
+  initialised : q .initialised ≡ p .initialised
 
 same : (p : Pod) → Beside p p
-same p = record { params = refl; words = refl; pipe = refl }
+same p = record { params = refl; words = refl; pipe = refl; initialised = refl }
 
 drop-beside : (s : Store) (p : Pod) → Beside p (dropFrom s p)
 unfolding dropFrom
 drop-beside Priority p =
     by-test (Beside p) (eqb (p .priority .waiting) 0 || eqb (p .fields .priorityremaining) 0) (λ e. same p)
-    (λ e. record { params = refl; words = refl; pipe = refl })
+    (λ e. record { params = refl; words = refl; pipe = refl; initialised = refl })
 drop-beside Ordinary p =
     by-test (Beside p) (eqb (p .ordinary .waiting) 0 || eqb (p .fields .memoryremaining) 0) (λ e. same p)
-    (λ e. record { params = refl; words = refl; pipe = refl })
+    (λ e. record { params = refl; words = refl; pipe = refl; initialised = refl })
 
 settled-beside : (x : Exchange) (p : Pod) → Beside p (settled x p)
 unfolding settled
@@ -144,11 +170,19 @@ module _ (first : ℕ) (one : Bool) (p : Pod) where
       rw (answers first one s (p .exchange))
       (split (matches first one (p .exchange)) (λ e. rw e (settled-blocks (p .exchange) p k s l m)) (λ e. rw e))
 
+  acknowledged-fields : OpenWaits p
+      → acknowledgedOf first one p .fields
+      ≡ lessBy Priority (Acknowledgement first one) (p .exchange) (lessBy Ordinary (Acknowledgement first one) (p .exchange) (p .fields))
+  unfolding acknowledgedOf acknowledged less
+  acknowledged-fields k =
+      rw (answers first one Priority (p .exchange), answers first one Ordinary (p .exchange))
+      (split (matches first one (p .exchange)) (λ e. rw e (settled-fields (p .exchange) p k)) (λ e. rw e))
+
   acknowledged-beside : Beside p (acknowledgedOf first one p)
   unfolding acknowledgedOf
   acknowledged-beside =
       let b = by-test (Beside p) (matches first one (p .exchange)) (λ e. settled-beside (p .exchange) p) (λ e. same p) in
-      record { params = b .params; words = b .words; pipe = b .pipe }
+      record { params = b .params; words = b .words; pipe = b .pipe; initialised = b .initialised }
 
   closes : acknowledgedOf first one p .exchange ≡ Closed
   unfolding acknowledgedOf
@@ -164,6 +198,9 @@ module _ (first : ℕ) (one : Bool) (p : Pod) where
         blocks = acknowledged-blocks;
         timeouts = rw (b .pipe);
         values = λ id e. rw (b .params);
+        written = λ a id e. rw (b .params);
+        fields = acknowledged-fields;
+        awake = b .initialised;
         waits = λ k. rw closes tt;
         arrays = λ a. record { marks = rw (b .params) (a .marks); load = rw (b .words) (a .load); pipe = rw (b .pipe) (a .pipe) };
       }

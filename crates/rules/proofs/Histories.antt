@@ -19,7 +19,7 @@ use Rattle.rules.specs.Refusals.{lowest, tablesSized, tablesRow}
 use Rattle.rules.specs.Calls.{Powered, powerCall, says}
 use Rattle.rules.specs.World.{World, Call, power, told, step, final, storeIn, byPowered, powered}
 use Rattle.rules.specs.History.{historyOf, Waiting, waitingAfter, waitingFrom, nothingWaits, timeoutsFrom}
-use Rattle.rules.specs.Demands.{BlocksAreHistory, CountIsBlocks, TimeoutsAreHistory}
+use Rattle.rules.specs.Demands.{BlocksAreHistory, TimeoutsAreHistory}
 use Rattle.rules.proofs.Pick.{by-test}
 use Rattle.rules.proofs.Inside.{fresh-in}
 use Rattle.rules.proofs.Sound.{step-in}
@@ -30,7 +30,7 @@ use Rattle.rules.proofs.Laws.{law}
 
 -- ---- as many blocks wait as the state says
 
-pub count-is-blocks : CountIsBlocks
+pub count-is-blocks : (s : Store) (w : World) → ringOf s (w .pod) .waiting ≡ length (blocksIn (capacityOf s) (ringOf s (w .pod)) (storeIn s w))
 count-is-blocks s w = sym (length-is-count (capacityOf s) (ringOf s (w .pod)) (storeIn s w))
 
 -- ---- what holds at every point

@@ -3,14 +3,15 @@
 use Prim.Native.Nat.{ℕ, _+_, min}
 use native.Mathlib.Omega.{arith}
 use mathlib.Core.Path.{_≡_, refl, sym}
-use mathlib.Core.Bool.{true, false, cond}
+use mathlib.Core.Bool.{Bool, true, false, cond}
 use mathlib.Core.List.{List, []}
 use lib.IntN.{ℤ}
 use lib.ListN.{length}
 use Rattle.blocks.specs.declared.Store.{Store}
+use Rattle.packets.specs.declared.Fields.{Fields}
 use Rattle.packets.specs.Reading.{readOf}
 use Rattle.params.specs.Rows.{rowOf}
-use Rattle.params.specs.Rules.{isId, valueAt}
+use Rattle.params.specs.Rules.{isId, valueAt, marked}
 use Rattle.tables.specs.declared.Words.{Words}
 use Rattle.tables.specs.Tables.{Three}
 use Rattle.pipe.specs.declared.Input.{Input}
@@ -20,6 +21,7 @@ use Rattle.rules.specs.State.{withWords, withPipe}
 use Rattle.rules.specs.Refusals.{refused, bytes, tablesSized}
 use Rattle.rules.specs.World.{World, Call, power, packet, deadline, put, command, dataIn, dataOut, status, samples, byte, timeout, Told, told, Stepped, stepped, withTables, step}
 use Rattle.rules.specs.History.{succeeded, exchangeAfter, asksInitialise, begins, blocksBy, shortBy, valueBy}
+use Rattle.rules.specs.Replies.{fieldsBy, awakeBy, markBy}
 use Rattle.rules.proofs.Bounds.{PodIn}
 use Rattle.rules.proofs.Pick.{and-false}
 use Rattle.rules.proofs.Fares.{OpenWaits, Arrays, blocksOf}
@@ -43,9 +45,16 @@ pub record Lawful (w : World) (c : Call) (z : Stepped) : Type 0 where
   -- the timeouts
   pub timeouts : (n : ℕ) → w .pod .pipe .timeouts ≡ min n 15
       → z .world .pod .pipe .timeouts ≡ min (cond (begins c (z .told)) 0 (n + shortBy c (z .told))) 15
-  -- and the parameters
+  -- the parameters
   pub values : (id : ℕ) → isId id ≡ true
       → valueAt (z .world .pod .params) id ≡ cond (begins c (z .told)) (rowOf id .start) (valueBy id c (z .told) (valueAt (w .pod .params) id))
+  -- the marks of those written
+  pub written : (id : ℕ) → isId id ≡ true
+      → marked (z .world .pod .params) id ≡ cond (begins c (z .told)) false (markBy id c (z .told) (marked (w .pod .params) id))
+  -- the fields
+  pub fields : z .world .pod .fields ≡ fieldsBy c (z .told) (w .pod .exchange) (w .pod .fields)
+  -- and whether the pod is initialised
+  pub awake : z .world .pod .initialised ≡ awakeBy c (z .told) (w .pod .initialised)
   -- an open exchange of a block has its block
   pub waits : OpenWaits (z .world .pod)
   -- the state's arrays, the stores and the tables keep their lengths
@@ -62,6 +71,9 @@ pub record Quiet (c : Call) (t : Told) : Type 0 where
   pub blocks : (s : Store) (x : Exchange) (q : List (List ℕ)) → blocksBy s c t x q ≡ q
   pub short : shortBy c t ≡ 0
   pub value : (id : ℕ) (v : ℤ) → valueBy id c t v ≡ v
+  pub mark : (id : ℕ) (m : Bool) → markBy id c t m ≡ m
+  pub fields : (x : Exchange) (f : Fields) → fieldsBy c t x f ≡ f
+  pub awake : (a : Bool) → awakeBy c t a ≡ a
 
 -- table words, samples and pipe bytes, whatever they are told
 abbrev pub Passes : Call → Type 0
@@ -78,34 +90,34 @@ Passes (byte b) = Unit {0}
 Passes timeout = ⊥
 
 pub passes : (c : Call) (t : Told) → Passes c → Quiet c t
-unfolding exchangeAfter begins blocksBy shortBy valueBy
+unfolding exchangeAfter begins blocksBy shortBy valueBy fieldsBy awakeBy markBy
 passes power t h = absurd h
 passes (packet b room) t h = absurd h
 passes deadline t h = absurd h
 passes (put s b) t h = absurd h
-passes (command y) t h = record { exchange = λ x. refl; begins = refl; blocks = λ s x q. refl; short = refl; value = λ id v. refl }
-passes (dataIn y) t h = record { exchange = λ x. refl; begins = refl; blocks = λ s x q. refl; short = refl; value = λ id v. refl }
-passes dataOut t h = record { exchange = λ x. refl; begins = refl; blocks = λ s x q. refl; short = refl; value = λ id v. refl }
-passes status t h = record { exchange = λ x. refl; begins = refl; blocks = λ s x q. refl; short = refl; value = λ id v. refl }
-passes (samples k xs) t h = record { exchange = λ x. refl; begins = refl; blocks = λ s x q. refl; short = refl; value = λ id v. refl }
-passes (byte b) t h = record { exchange = λ x. refl; begins = refl; blocks = λ s x q. refl; short = refl; value = λ id v. refl }
+passes (command y) t h = record { exchange = λ x. refl; begins = refl; blocks = λ s x q. refl; short = refl; value = λ id v. refl; mark = λ id m. refl; fields = λ x f. refl; awake = λ a. refl }
+passes (dataIn y) t h = record { exchange = λ x. refl; begins = refl; blocks = λ s x q. refl; short = refl; value = λ id v. refl; mark = λ id m. refl; fields = λ x f. refl; awake = λ a. refl }
+passes dataOut t h = record { exchange = λ x. refl; begins = refl; blocks = λ s x q. refl; short = refl; value = λ id v. refl; mark = λ id m. refl; fields = λ x f. refl; awake = λ a. refl }
+passes status t h = record { exchange = λ x. refl; begins = refl; blocks = λ s x q. refl; short = refl; value = λ id v. refl; mark = λ id m. refl; fields = λ x f. refl; awake = λ a. refl }
+passes (samples k xs) t h = record { exchange = λ x. refl; begins = refl; blocks = λ s x q. refl; short = refl; value = λ id v. refl; mark = λ id m. refl; fields = λ x f. refl; awake = λ a. refl }
+passes (byte b) t h = record { exchange = λ x. refl; begins = refl; blocks = λ s x q. refl; short = refl; value = λ id v. refl; mark = λ id m. refl; fields = λ x f. refl; awake = λ a. refl }
 passes timeout t h = absurd h
 
 -- a call that is refused, whatever bytes stand beside it
 refused-quiet : (c : Call) (n : ℕ) (l : List ℕ) → shortBy c (told (refused n) l) ≡ 0 → Quiet c (told (refused n) l)
-unfolding exchangeAfter begins blocksBy valueBy succeeded
-refused-quiet power n l h = record { exchange = λ x. refl; begins = refl; blocks = λ s x q. refl; short = h; value = λ id v. refl }
+unfolding exchangeAfter begins blocksBy valueBy fieldsBy awakeBy markBy succeeded
+refused-quiet power n l h = record { exchange = λ x. refl; begins = refl; blocks = λ s x q. refl; short = h; value = λ id v. refl; mark = λ id m. refl; fields = λ x f. refl; awake = λ a. refl }
 refused-quiet (packet b room) n l h =
-    record { exchange = λ x. refl; begins = and-false (asksInitialise (readOf b)); blocks = λ s x q. refl; short = h; value = λ id v. refl }
-refused-quiet deadline n l h = record { exchange = λ x. refl; begins = refl; blocks = λ s x q. refl; short = h; value = λ id v. refl }
-refused-quiet (put r b) n l h = record { exchange = λ x. refl; begins = refl; blocks = λ s x q. refl; short = h; value = λ id v. refl }
+    record { exchange = λ x. refl; begins = and-false (asksInitialise (readOf b)); blocks = λ s x q. refl; short = h; value = λ id v. refl; mark = λ id m. refl; fields = λ x f. refl; awake = λ a. refl }
+refused-quiet deadline n l h = record { exchange = λ x. refl; begins = refl; blocks = λ s x q. refl; short = h; value = λ id v. refl; mark = λ id m. refl; fields = λ x f. refl; awake = λ a. refl }
+refused-quiet (put r b) n l h = record { exchange = λ x. refl; begins = refl; blocks = λ s x q. refl; short = h; value = λ id v. refl; mark = λ id m. refl; fields = λ x f. refl; awake = λ a. refl }
 refused-quiet (command y) n l h = passes (command y) (told (refused n) l) tt
 refused-quiet (dataIn y) n l h = passes (dataIn y) (told (refused n) l) tt
 refused-quiet dataOut n l h = passes dataOut (told (refused n) l) tt
 refused-quiet status n l h = passes status (told (refused n) l) tt
 refused-quiet (samples k xs) n l h = passes (samples k xs) (told (refused n) l) tt
 refused-quiet (byte b) n l h = passes (byte b) (told (refused n) l) tt
-refused-quiet timeout n l h = record { exchange = λ x. refl; begins = refl; blocks = λ s x q. refl; short = h; value = λ id v. refl }
+refused-quiet timeout n l h = record { exchange = λ x. refl; begins = refl; blocks = λ s x q. refl; short = h; value = λ id v. refl; mark = λ id m. refl; fields = λ x f. refl; awake = λ a. refl }
 
 module _ (w : World) (g : Good (w .pod)) where
   -- a quiet call that leaves all but words, tables and gathered bytes
@@ -118,6 +130,9 @@ module _ (w : World) (g : Good (w .pod)) where
         blocks = λ s. rw (q .begins, q .blocks s (w .pod .exchange) (waitingIn s w));
         timeouts = λ n h. rw (q .begins, q .short) (omega arith);
         values = λ id h. rw (q .begins, q .value id (valueAt (w .pod .params) id));
+        written = λ id h. rw (q .begins, q .mark id (marked (w .pod .params) id));
+        fields = sym (q .fields (w .pod .exchange) (w .pod .fields));
+        awake = sym (q .awake (w .pod .initialised));
         waits = g .waits;
         arrays = record { marks = g .arrays .marks; load = l; pipe = b };
         priority = refl;

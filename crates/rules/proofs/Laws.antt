@@ -32,12 +32,13 @@ use Rattle.rules.specs.Obey.{shut}
 use Rattle.rules.specs.Refusals.{done, bytes, lowest, storeSized, tablesSized, roomRow, allRow, storeRow, tablesRow, stateRow, blockRow, asleepRow, fullRow}
 use Rattle.rules.specs.Calls.{Outcome, Powered, powerCall, Heard, heardOf, answeredWith, answeredBy, Packeted, packetCall, deadlineCall, Put, putCall, Worded, commandCall, dataInCall, dataOutCall, statusCall, samplesCall, Piping, passed as passing, byteCall, timeoutCall}
 use Rattle.rules.specs.World.{World, Call, power, packet, deadline, put, command, dataIn, dataOut, status, samples, byte, timeout, told, stepped, withPod, withTables, withStore, storeIn, byOutcome, byWorded, byPacketed, byPut, byPiping, byPowered, step}
+use Rattle.rules.specs.Replies.{fieldsBy, awakeBy, markBy}
 use Rattle.rules.specs.History.{succeeded, exchangeAfter, sameStore, asksInitialise, begins, blocksBy, shortBy, valueBy}
 use Rattle.rules.proofs.Pick.{by-test, split}
 use Rattle.rules.proofs.Gates.{passed, size, packet-fits, PutFits, put-fits}
 use Rattle.rules.proofs.Spoken.{spokenFine, spoken-fine}
 use Rattle.rules.proofs.Fares.{Waits, blocksBoth, Fares}
-use Rattle.rules.proofs.Obeying.{fares, no-blocks, fresh-arrays, start-value}
+use Rattle.rules.proofs.Obeying.{fares, no-blocks, fresh-arrays, start-value, start-unmarked}
 use Rattle.rules.proofs.Lawful.{waitingIn, Good, Lawful, passes, still, stays}
 
 -- where no fewer wait, an open exchange of a block has its block still
@@ -56,13 +57,16 @@ starts-right = starts-sized
 
 module _ (w : World) (g : Good (w .pod)) where
   power-law : Lawful w power (stepped (told done []) (withTables starts freshPod w))
-  unfolding exchangeAfter begins freshPod freshInput emptyInput
+  unfolding exchangeAfter begins fieldsBy awakeBy freshPod freshInput emptyInput
   power-law =
       record {
         exchange = refl;
         blocks = λ s. no-blocks s (w .priority) (w .ordinary);
         timeouts = λ n h. refl;
         values = λ id h. start-value id h;
+        written = λ id h. start-unmarked id h;
+        fields = refl;
+        awake = refl;
         waits = tt;
         arrays = fresh-arrays;
         priority = refl;
@@ -71,13 +75,16 @@ module _ (w : World) (g : Good (w .pod)) where
       }
 
   deadline-law : Lawful w deadline (stepped (told done []) (withPod (shut (w .pod)) w))
-  unfolding exchangeAfter begins blocksBy shortBy valueBy
+  unfolding exchangeAfter begins blocksBy shortBy valueBy fieldsBy awakeBy markBy
   deadline-law =
       record {
         exchange = refl;
         blocks = λ s. refl;
         timeouts = λ n h. omega arith;
         values = λ id h. refl;
+        written = λ id h. refl;
+        fields = refl;
+        awake = refl;
         waits = tt;
         arrays = g .arrays;
         priority = refl;
@@ -88,7 +95,7 @@ module _ (w : World) (g : Good (w .pod)) where
   put-law : (s : Store) (b : List ℕ) → length (storeIn s w) ≡ capacityOf s * 256 → PutFits s b (w .pod)
       → Lawful w (put s b)
       (stepped (told done []) (withStore s (putStore (capacityOf s) (ringOf s (w .pod)) (storeIn s w) b) (withRing s (putRing (ringOf s (w .pod))) (w .pod)) w))
-  unfolding exchangeAfter begins blocksBy shortBy valueBy
+  unfolding exchangeAfter begins blocksBy shortBy valueBy fieldsBy awakeBy markBy
   put-law Priority b e f =
       let more = put-counts (w .pod .priority) in
       record {
@@ -96,6 +103,9 @@ module _ (w : World) (g : Good (w .pod)) where
         blocks = λ r. behind r;
         timeouts = λ n h. omega arith;
         values = λ id h. refl;
+        written = λ id h. refl;
+        fields = refl;
+        awake = refl;
         waits = more-wait (w .pod .exchange) (w .pod .fields) (w .pod .priority) (w .pod .ordinary) (putRing (w .pod .priority)) (w .pod .ordinary) (omega arith) (omega arith) (g .waits);
         arrays = g .arrays;
         priority = put-length 16 (w .pod .priority) (w .priority) b;
@@ -114,6 +124,9 @@ module _ (w : World) (g : Good (w .pod)) where
         blocks = λ r. behind r;
         timeouts = λ n h. omega arith;
         values = λ id h. refl;
+        written = λ id h. refl;
+        fields = refl;
+        awake = refl;
         waits = more-wait (w .pod .exchange) (w .pod .fields) (w .pod .priority) (w .pod .ordinary) (w .pod .priority) (putRing (w .pod .ordinary)) (omega arith) (omega arith) (g .waits);
         arrays = g .arrays;
         priority = refl;
@@ -128,13 +141,16 @@ module _ (w : World) (g : Good (w .pod)) where
 
   packet-law : (b room : List ℕ) (h : Heard) (n : ℕ) (l : List ℕ) → Fares (readOf b) (w .pod) h → succeeded (told (bytes n) l) ≡ spokenFine (h .spoken)
       → Lawful w (packet b room) (stepped (told (bytes n) l) (withTables (cond (h .restart) starts (w .tables)) (h .pod) w))
-  unfolding exchangeAfter begins blocksBy shortBy valueBy
+  unfolding exchangeAfter begins blocksBy shortBy valueBy fieldsBy awakeBy markBy
   packet-law b room h n l f ok =
       record {
         exchange = rw ok (f .exchange);
         blocks = λ s. rw ok (f .blocks (g .waits) s (w .priority) (w .ordinary));
         timeouts = λ n e. rw ok (counted n e);
         values = λ id e. rw ok (f .values id e);
+        written = λ id e. rw ok (f .written (g .arrays) id e);
+        fields = rw ok (f .fields (g .waits));
+        awake = rw ok (f .awake);
         waits = f .waits (g .waits);
         arrays = f .arrays (g .arrays);
         priority = refl;
@@ -149,13 +165,13 @@ module _ (w : World) (g : Good (w .pod)) where
           ∙ split (asksInitialise (readOf b) && spokenFine (h .spoken)) (λ y. rw y) (λ y. rw y (omega arith))
 
   timeout-law : Lawful w timeout (byPiping (passing (timeoutOf (w .pod .pipe)) (w .pod)) w)
-  unfolding exchangeAfter begins blocksBy shortBy valueBy emptyInput countUp
+  unfolding exchangeAfter begins blocksBy shortBy valueBy fieldsBy awakeBy markBy emptyInput countUp
   timeout-law =
       let i = w .pod .pipe in
       timeout-cases (λ (q : Piped). Lawful w timeout (byPiping (passing q (w .pod)) w)) i
       (λ none.
       still w g timeout (told done (listOf (sending []))) (w .pod .words) i (w .tables)
-      (record { exchange = λ x. refl; begins = refl; blocks = λ s x q. refl; short = rw (listed []); value = λ id v. refl })
+      (record { exchange = λ x. refl; begins = refl; blocks = λ s x q. refl; short = rw (listed []); value = λ id v. refl; mark = λ id m. refl; fields = λ x f. refl; awake = λ a. refl })
       refl (g .arrays .load) (g .arrays .pipe) (λ k. k))
       (λ some.
       let long : length (held i) ≡ i .gathered = length-held (record { long = g .arrays .pipe; few = sound-in i (g .inside .pipe) .0 }) in
@@ -164,6 +180,9 @@ module _ (w : World) (g : Good (w .pod)) where
         blocks = λ s. refl;
         timeouts = λ n h. rw (listed (held i), ne-eqb (length (held i)) 0 (λ z. omega arith)) (omega arith);
         values = λ id h. refl;
+        written = λ id h. refl;
+        fields = refl;
+        awake = refl;
         waits = g .waits;
         arrays = record { marks = g .arrays .marks; load = g .arrays .load; pipe = refl };
         priority = refl;

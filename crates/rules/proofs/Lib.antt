@@ -29,3 +29,4 @@ pub mod Examples
 pub mod NotEmpty
 pub mod Checked
 pub mod TablesOnly
+pub mod Shows

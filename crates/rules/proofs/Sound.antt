@@ -38,7 +38,7 @@ use Rattle.rules.specs.State.{withWords, withRing, withRemaining, ringOf
 use Rattle.rules.specs.Obey.{shut, initialisedPod, initialiseRule, statusRule, updateRule, writeRule, readBy, readRule, receiveRule, shutdownRule, ruleOf, isInitialise, obeyOf, matches, dropFrom, settled, acknowledgedOf}
 use Rattle.rules.specs.Refusals.{lowest, roomRow, allRow, storeRow, tablesRow, stateRow, blockRow, asleepRow, fullRow}
 use Rattle.rules.specs.Calls.{Outcome, Powered, powerCall, heardOf, answeredWith, answeredBy, Packeted, packetCall, deadlineCall, Put, putCall, Worded, commandCall, dataInCall, dataOutCall, statusCall, Piping, byteCall, timeoutCall}
-use Rattle.rules.specs.World.{World, Call, power, packet, deadline, put, command as word, dataIn, dataOut, status, samples, byte, timeout, byPowered, byPut, storeIn, withStore, step, final, powered}
+use Rattle.rules.specs.World.{World, Call, power, packet, deadline, put, command as word, dataIn, dataOut, status, samples, byte, timeout, byPowered, byPut, storeIn, withStore, step, powered}
 use Rattle.rules.specs.Demands.{KeptSound}
 use Rattle.rules.proofs.Pick.{by-test, and-left, and-right}
 use Rattle.rules.proofs.Bounds.{PodIn, in-pod, pod-in}
@@ -208,15 +208,9 @@ step-in w timeout h =
 pub sound-step : (w : World) (c : Call) → soundPod (w .pod) ≡ true → soundPod (step w c .world .pod) ≡ true
 sound-step w c h = in-pod (step-in w c (pod-in (w .pod) h))
 
--- and after any calls
-pub final-in : (w : World) (cs : List Call) → PodIn (w .pod) → PodIn (final w cs .pod)
-unfolding final
-final-in w [] h = h
-final-in w (c ∷ cs) h = final-in (step w c .world) cs (step-in w c h)
-
 -- from power on the pod is in its bounds, whatever lies in the stores and the tables
 pub powered-in : (p o : List ℕ) (t : Three) → PodIn (powered p o t .pod)
 powered-in p o t = step-in _ power fresh-in
 
 pub kept-sound : KeptSound
-kept-sound p o t cs = in-pod (final-in (powered p o t) cs (powered-in p o t))
+kept-sound = ((λ p o t. in-pod (powered-in p o t)), sound-step)

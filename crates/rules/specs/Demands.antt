@@ -1,11 +1,11 @@
 -- What the owner asked for, said of the rules. Each name is a statement; proofs/ has a proof of each.
 -- Assumes nothing.
-use Prim.Native.Nat.{ℕ, _+_, _-_, _<_, _≤_, min}
+use Prim.Native.Nat.{ℕ, _+_, _-_, _/_, _<_, _≤_, min}
 use mathlib.Core.Path.{_≡_}
 use mathlib.Core.Logic.{_↔_}
 use mathlib.Core.Bool.{Bool, true, false, not, _&&_, _||_, cond}
 use mathlib.Core.List.{List, [], _∷_, map}
-use lib.ListN.{length, replicate}
+use lib.ListN.{length, getD, replicate}
 use lib.Seq.{sets}
 use lib.Dec.{eqb, ltb}
 use lib.IntN.{ℤ}
@@ -15,9 +15,6 @@ use Rattle.packets.specs.declared.Fields.{Fields}
 use Rattle.packets.specs.declared.Parsed.the-variants.{Asked}
 use Rattle.packets.specs.declared.Command.the-variants as command
 use Rattle.packets.specs.Reading.{readOf, crcRight}
-use Rattle.packets.specs.Answers.{valueAnswer}
-use Rattle.params.specs.Rows.{rowOf}
-use Rattle.params.specs.Rules.{isId}
 use Rattle.tables.specs.declared.Table.{Table}
 use Rattle.tables.specs.declared.Order.the-variants.{Restart, Writing}
 use Rattle.tables.specs.declared.Transfer.the-variants.{Idle, Load}
@@ -27,10 +24,11 @@ use Rattle.tables.specs.Port.{isOpen, rightOf, storedIn}
 use Rattle.rules.specs.State.{withWords, ringOf, soundPod}
 use Rattle.rules.specs.Obey.{shut}
 use Rattle.rules.specs.Refusals.{Said, refused, tablesSized}
-use Rattle.rules.specs.World.{World, Call, packet, command as word, dataIn, roomOf, Told, told, Stepped, stepped, withPod, withTables, storeIn, isRefused, step, final, run, powered}
+use Rattle.rules.specs.World.{World, Call, packet, command as word, dataIn, samples, roomOf, Told, told, Stepped, stepped, withPod, withTables, storeIn, isRefused, step, final, run, powered}
 use Rattle.rules.specs.Rows.{holds}
 use Rattle.rules.specs.Checks.{Answers, errored}
-use Rattle.rules.specs.History.{Waiting, succeeded, begins, historyOf, waitingFrom, nothingWaits, timeoutsFrom, valueFrom}
+use Rattle.rules.specs.Replies.{answering, readFrom, receivedFrom, statusFrom}
+use Rattle.rules.specs.History.{begins, historyOf, receives, waitingFrom, nothingWaits, timeoutsFrom}
 use Rattle.rules.specs.Pairs.{Accepts, ShutsDown, Near, Asleep, tells, Event, past}
 
 -- ---- 1. "Any packet, word, sample or state may arrive. Each is answered, or refused by a number in document 01"
@@ -49,9 +47,11 @@ RefusedUnchanged = (w : World) (c : Call) (n : ℕ) → step w c .told .said ≡
 abbrev pub RefusedTells : Type 0
 RefusedTells = (w : World) (c : Call) (n : ℕ) → step w c .told .said ≡ refused n → step w c .told .bytes ≡ roomOf c
 
--- from power on no call leaves the bounds, whatever the world it is made in
+-- "Bounds of the state": a pod from power is within them, and no call leaves them
 abbrev pub KeptSound : Type 0
-KeptSound = (p o : List ℕ) (t : Three) (cs : List Call) → soundPod (final (powered p o t) cs .pod) ≡ true
+KeptSound =
+    ((p o : List ℕ) (t : Three) → soundPod (powered p o t .pod) ≡ true)
+    × ((w : World) (c : Call) → soundPod (w .pod) ≡ true → soundPod (step w c .world .pod) ≡ true)
 
 -- ---- 2. "Answers, tables, waiting blocks and frames are exactly what document 01 takes from those papers."
 
@@ -118,31 +118,47 @@ ErrorUnchanged =
     (w : World) (b room : List ℕ) → errored (step w (packet b room) .told) ≡ true
     → step w (packet b room) .world ≡ withPod (shut (w .pod)) w
 
--- the waiting blocks are, in order and byte for byte, those put since Initialise less those acknowledged
+-- "put adds a block behind the others", and acknowledged "the oldest block of that store is dropped": the blocks that wait are, in
+-- order and byte for byte, those put since Initialise less those acknowledged
 abbrev pub BlocksAreHistory : Type 0
 BlocksAreHistory =
     (s : Store) (p o : List ℕ) (t : Three) (cs : List Call)
     → blocksIn (capacityOf s) (ringOf s (final (powered p o t) cs .pod)) (storeIn s (final (powered p o t) cs))
     ≡ waitingFrom s nothingWaits (historyOf (powered p o t) cs) .blocks
 
--- and as many wait as the state says, which is what Status shows
-abbrev pub CountIsBlocks : Type 0
-CountIsBlocks =
-    (s : Store) (w : World) → ringOf s (w .pod) .waiting ≡ length (blocksIn (capacityOf s) (ringOf s (w .pod)) (storeIn s w))
+-- "A kept block is sent again at the next receive": a receive is answered with the first of them, or an error number
+abbrev pub ReceiveIsHistory : Type 0
+ReceiveIsHistory =
+    (s : Store) (p o : List ℕ) (t : Three) (cs : List Call) (b room : List ℕ) → readOf b ≡ Asked (receives s)
+    → isRefused (step (final (powered p o t) cs) (packet b room) .told .said) ≡ false
+    → step (final (powered p o t) cs) (packet b room) .told ≡ answering room (receivedFrom s (historyOf (powered p o t) cs))
 
--- the timeout count is the timeouts since Initialise that sent something, up to 15
+-- "mode, flags 2, priority blocks waiting 2, ordinary blocks waiting 4, request 0, eight ids": Status shows those of the history
+abbrev pub StatusIsHistory : Type 0
+StatusIsHistory =
+    (p o : List ℕ) (t : Three) (cs : List Call) (b room : List ℕ) → readOf b ≡ Asked command.Status
+    → isRefused (step (final (powered p o t) cs) (packet b room) .told .said) ≡ false
+    → step (final (powered p o t) cs) (packet b room) .told ≡ answering room (statusFrom (historyOf (powered p o t) cs))
+
+-- "timeout counts (they equal .. timeouts since Initialise, up to 15)", of timeouts that sent something
 abbrev pub TimeoutsAreHistory : Type 0
 TimeoutsAreHistory =
     (p o : List ℕ) (t : Three) (cs : List Call)
     → final (powered p o t) cs .pod .pipe .timeouts ≡ min (timeoutsFrom 0 (historyOf (powered p o t) cs)) 15
 
--- a parameter read, answered without error, gives what was last written since Initialise, else the start
+-- "input timeouts in 0.7-4": each answered samples call shows that count
+abbrev pub FrameShowsTimeouts : Type 0
+FrameShowsTimeouts =
+    (p o : List ℕ) (t : Three) (cs : List Call) (k : ℕ) (xs : List ℕ)
+    → isRefused (step (final (powered p o t) cs) (samples k xs) .told .said) ≡ false
+    → getD (step (final (powered p o t) cs) (samples k xs) .told .bytes) 0 0 / 16 ≡ min (timeoutsFrom 0 (historyOf (powered p o t) cs)) 15
+
+-- "parameter read after write": a read is answered with what was last written since Initialise, else the start, or an error number
 abbrev pub ReadIsWritten : Type 0
 ReadIsWritten =
     (p o : List ℕ) (t : Three) (cs : List Call) (b room : List ℕ) (id : ℕ) → readOf b ≡ Asked (command.Read id)
-    → succeeded (step (final (powered p o t) cs) (packet b room) .told) ≡ true
-    → step (final (powered p o t) cs) (packet b room) .told .bytes
-    ≡ sets room 0 (valueAnswer 0x94 id (valueFrom id (rowOf id .start) (historyOf (powered p o t) cs)))
+    → isRefused (step (final (powered p o t) cs) (packet b room) .told .said) ≡ false
+    → step (final (powered p o t) cs) (packet b room) .told ≡ answering room (readFrom id (historyOf (powered p o t) cs))
 
 -- ---- 3. "Give both the same accepted Initialise, then the same calls .. From that Initialise's answer on, their answers and
 -- table words are equal, and are those of demand 2."

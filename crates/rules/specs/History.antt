@@ -112,7 +112,11 @@ begins (samples k xs) t = false
 begins (byte b) t = false
 begins timeout t = false
 
--- the code of a receive from a store
+-- the command that receives a block of a store, and its code
+abbrev pub receives : Store → Command
+receives Priority = command.Priority
+receives Ordinary = command.Data
+
 abbrev pub receiveCode : Store → ℕ
 receiveCode Priority = 0x95
 receiveCode Ordinary = 0x96
@@ -150,7 +154,7 @@ waitingAfter s e x =
       blocks = cond (begins (e .call) (e .told)) [] (blocksBy s (e .call) (e .told) (x .exchange) (x .blocks));
     }
 
--- "those put since Initialise less those acknowledged"
+-- by all of a history: the blocks put since Initialise less those acknowledged
 unfoldable pub waitingFrom : Store → Waiting → List Entry → Waiting
 waitingFrom s x [] = x
 waitingFrom s x (e ∷ es) = waitingFrom s (waitingAfter s e x) es

@@ -4,6 +4,7 @@ pub mod Refusals
 pub mod Calls
 pub mod World
 pub mod History
+pub mod Replies
 pub mod Rows
 pub mod Checks
 pub mod Pairs

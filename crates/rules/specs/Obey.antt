@@ -133,7 +133,7 @@ acknowledgedOf first one p = shut (cond (matches first one (p .exchange)) (settl
 
 -- ---- what a status answer shows
 
--- "mode, flags, priority blocks waiting, ordinary blocks waiting, .. the asked parameters not written since Initialise"
+-- "mode, flags 2, priority blocks waiting 2, ordinary blocks waiting 4, .. eight ids: the asked parameters not written since Initialise"
 unfoldable pub reportOf : Pod → Report
 reportOf p =
     record { mode = p .fields .mode; flags = p .fields .flags; priority = p .priority .waiting; ordinary = p .ordinary .waiting; ids = missingOf (p .params) }
