@@ -1,19 +1,17 @@
 -- Demand 2: "Checks in this order": what a packet that is not refused is answered, and that an error answer changes nothing.
 -- Assumes nothing.
-use Prim.Native.Nat.{ℕ, zero, suc, _+_, _*_, _≤_, _<_}
+use Prim.Native.Nat.{ℕ, zero, suc, _*_, _≤_, _<_}
 use native.Mathlib.Omega.{arith}
 use mathlib.Core.Path.{_≡_, refl, sym, ap, _∙_}
 use mathlib.Core.Bool.{Bool, true, false, not, _&&_, _||_, cond, false≢true}
 use mathlib.Core.List.{List, [], _∷_}
-use mathlib.Core.Logic.{_⊎_, inl, inr}
+use mathlib.Core.Logic.{_⊎_}
 use lib.Dec.{ltb, eqb}
 use lib.IntN.{ℤ}
-use lib.ListN.{length, take, drop}
+use lib.ListN.{length, take}
 use lib.Seq.{sets, sets-eq}
 use borrow.Author.Tests.{eqb-false}
-use Rattle.blocks.specs.declared.Store.{Store}
 use Rattle.blocks.specs.declared.Store.the-variants.{Priority, Ordinary}
-use Rattle.blocks.specs.Stores.{oldestOf}
 use Rattle.blocks.proofs.Laws.{oldest-whole}
 use Rattle.packets.specs.declared.Command.{Command}
 use Rattle.packets.specs.declared.Command.the-variants as command
@@ -21,9 +19,9 @@ use Rattle.packets.specs.declared.Parsed.{Parsed}
 use Rattle.packets.specs.declared.Parsed.the-variants.{Nothing, Error, Acknowledgement, Asked}
 use Rattle.packets.specs.Commands.{fieldsBounded, rowOf, placeOf}
 use Rattle.packets.specs.Reading.{readOf}
-use Rattle.packets.specs.Answers.{closed, answerOf, errorAnswer, doneAnswer, statusBody, statusAnswer, valueBody, valueAnswer, dataAnswer}
+use Rattle.packets.specs.Answers.{closed, answerOf, doneAnswer, statusAnswer, valueAnswer, dataAnswer}
 use Rattle.packets.proofs.Laws.{done-listed, status-length, value-length, data-length}
-use Rattle.params.specs.Rules.{isId, allowed, writeOf, valueOf, missingOf}
+use Rattle.params.specs.Rules.{isId, allowed, writeOf, valueOf}
 use Rattle.params.proofs.Laws.{missing-length}
 use Rattle.rules.specs.declared.Pod.{Pod}
 use Rattle.rules.specs.declared.Obeyed.{Obeyed}
