@@ -1,29 +1,28 @@
 -- Demand 2: "Checks in this order": what a packet that is not refused is answered, and that an error answer changes nothing.
 -- Assumes nothing.
-use Prim.Native.Nat.{ℕ, zero, suc, _+_, _*_, _≤_, _<_}
+use Prim.Native.Nat.{ℕ, zero, suc, _*_, _≤_, _<_}
+use native.Mathlib.Nat.{zero-add}
 use native.Mathlib.Omega.{arith}
 use mathlib.Core.Path.{_≡_, refl, sym, ap, _∙_}
 use mathlib.Core.Bool.{Bool, true, false, not, _&&_, _||_, cond, false≢true}
-use mathlib.Core.List.{List, [], _∷_}
-use mathlib.Core.Logic.{_⊎_, inl, inr}
+use mathlib.Core.List.{List, [], _∷_, _++_}
+use mathlib.Core.Logic.{_⊎_}
 use lib.Dec.{ltb, eqb}
 use lib.IntN.{ℤ}
 use lib.ListN.{length, take, drop}
-use lib.Seq.{sets, sets-eq}
+use lib.Seq.{sets, sets-eq, take-at, drop-at}
 use borrow.Author.Tests.{eqb-false}
-use Rattle.blocks.specs.declared.Store.{Store}
 use Rattle.blocks.specs.declared.Store.the-variants.{Priority, Ordinary}
-use Rattle.blocks.specs.Stores.{oldestOf}
 use Rattle.blocks.proofs.Laws.{oldest-whole}
 use Rattle.packets.specs.declared.Command.{Command}
 use Rattle.packets.specs.declared.Command.the-variants as command
 use Rattle.packets.specs.declared.Parsed.{Parsed}
 use Rattle.packets.specs.declared.Parsed.the-variants.{Nothing, Error, Acknowledgement, Asked}
 use Rattle.packets.specs.Commands.{fieldsBounded, rowOf, placeOf}
-use Rattle.packets.specs.Reading.{readOf}
-use Rattle.packets.specs.Answers.{closed, answerOf, errorAnswer, doneAnswer, statusBody, statusAnswer, valueBody, valueAnswer, dataAnswer}
-use Rattle.packets.proofs.Laws.{done-listed, status-length, value-length, data-length}
-use Rattle.params.specs.Rules.{isId, allowed, writeOf, valueOf, missingOf}
+use Rattle.packets.specs.Reading.{crcRight, readOf}
+use Rattle.packets.specs.Answers.{closed, answerOf, doneAnswer, statusAnswer, valueAnswer, dataAnswer}
+use Rattle.packets.proofs.Laws.{answer-right, done-listed, status-length, value-length, data-length}
+use Rattle.params.specs.Rules.{isId, allowed, writeOf, valueOf}
 use Rattle.params.proofs.Laws.{missing-length}
 use Rattle.rules.specs.declared.Pod.{Pod}
 use Rattle.rules.specs.declared.Obeyed.{Obeyed}
@@ -141,12 +140,27 @@ short-answers command.Priority = omega arith
 short-answers command.Data = omega arith
 short-answers command.Shutdown = omega arith
 
+-- it stands whole in the room, and the rest of the room is kept
+module _ (l room : List ℕ) (n : ℕ) (long : length l ≡ n) (fits : length l ≤ length room) where
+  in-room : sets room 0 l ≡ l ++ drop (length l) room
+  in-room = sets-eq l room 0 (omega arith) ∙ ap (λ (k : ℕ). l ++ drop k room) (zero-add (length l))
+
+  whole-shown : take n (sets room 0 l) ≡ l
+  whole-shown = rw in-room (take-at l (drop (length l) room) n long)
+
+  rest-kept : drop n (sets room 0 l) ≡ drop n room
+  rest-kept = rw in-room (drop-at l (drop (length l) room) n long ∙ ap (λ (k : ℕ). drop k room) long)
+
 fine-answers : (c : Command) (room l : List ℕ) → 260 ≤ length room → Fine c l → AnswersCommand c 0 room (answered room l)
-fine-answers c room l wide h = (
-  ap bytes (h .long),
-  let fits : length (answerOf (rowOf c .code) 0x01 (h .body)) ≤ length room = omega (arith, wide, short-answers c, h .long, ap length (h .is)) in
-      rw (h .is) (first-two room (rowOf c .code) 0x01 (h .body) fits),
-)
+fine-answers c room l wide h =
+    let n = rowOf c .answer in
+    let fits : length l ≤ length room = omega (arith, wide, short-answers c, h .long) in
+    record {
+      count = ap bytes (h .long);
+      start = rw (h .is) (first-two room (rowOf c .code) 0x01 (h .body) (omega (arith, fits, ap length (h .is))));
+      crc = ap crcRight (whole-shown l room n (h .long) fits ∙ h .is) ∙ answer-right (rowOf c .code) 0x01 (h .body);
+      rest = rest-kept l room n (h .long) fits;
+    }
 
 module _ (w : World) (room : List ℕ) (h : PacketFits room w) where
   fate-in : (c : Command) → Becomes (w .pod) (w .priority) (w .ordinary) c (checkOf c (w .pod)) (obeyOf c (shut (w .pod)))

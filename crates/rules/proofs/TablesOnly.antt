@@ -2,29 +2,28 @@
 -- Assumes nothing.
 use Prim.Native.Nat.{ℕ}
 use mathlib.Core.Path.{_≡_, refl, sym, ap, _∙_}
-use mathlib.Core.Bool.{true, false, not, _&&_, cond, false≢true}
+use mathlib.Core.Bool.{true, false, not, _&&_, false≢true}
 use mathlib.Core.List.{List, [], _∷_}
 use lib.Dec.{eqb}
-use Rattle.packets.specs.declared.Command.{Command}
 use Rattle.packets.specs.declared.Command.the-variants as command
 use Rattle.packets.specs.declared.Parsed.{Parsed}
 use Rattle.packets.specs.declared.Parsed.the-variants.{Nothing, Error, Acknowledgement, Asked}
 use Rattle.packets.specs.Reading.{readOf}
 use Rattle.tables.specs.declared.Order.the-variants.{Restart}
 use Rattle.tables.specs.Command.{heardOf as orderOf}
-use Rattle.tables.specs.Tables.{Three, starts}
+use Rattle.tables.specs.Tables.{starts}
 use Rattle.tables.specs.Port.{tabled}
 use Rattle.tables.proofs.Laws.{command-keeps}
 use Rattle.rules.specs.declared.Pod.{Pod}
-use Rattle.rules.specs.Calls.{heardOf, answeredWith, answeredBy, commandCall, spokenBytes}
+use Rattle.rules.specs.Calls.{heardOf, answeredWith, answeredBy, commandCall}
 use Rattle.rules.specs.Refusals.{tablesRow, stateRow, lowest}
-use Rattle.rules.specs.World.{World, Call, power, packet, deadline, put, command as word, dataIn, dataOut, status, samples, byte, timeout, Stepped, byPacketed, isRefused, step}
-use Rattle.rules.specs.History.{asksInitialise, begins, succeeded}
+use Rattle.rules.specs.World.{World, power, packet, deadline, put, command as word, dataIn, dataOut, status, samples, byte, timeout, step}
+use Rattle.rules.specs.History.{asksInitialise, begins}
 use Rattle.rules.specs.Demands.{TablesOnly}
 use Rattle.blocks.specs.declared.Store.the-variants.{Priority, Ordinary}
 use Rattle.rules.proofs.Pick.{split}
 use Rattle.rules.proofs.Answered.{clear, gate}
-use Rattle.rules.proofs.Packet.{PacketFits, packet-fits, packet-answered}
+use Rattle.rules.proofs.Packet.{packet-fits, packet-answered}
 use Rattle.rules.proofs.Initialise.{initialise-heard}
 use Rattle.rules.proofs.Spoken.{spokenFine, spoken-fine}
 use Rattle.rules.proofs.Restarts.{restarts, heard-restarts}

@@ -2,16 +2,17 @@
 -- Assumes nothing.
 use Prim.Native.Nat.{ℕ, zero, suc}
 use mathlib.Core.Path.{_≡_}
-use mathlib.Core.Bool.{Bool, false, not, _&&_, cond}
+use mathlib.Core.Bool.{Bool, true, false, not, _&&_, cond}
 use mathlib.Core.List.{List, [], _∷_}
 use lib.Dec.{ltb, eqb}
-use lib.ListN.{length, getD, take}
+use lib.ListN.{length, getD, take, drop}
 use lib.Seq.{sets}
 use Rattle.packets.specs.declared.Command.{Command}
 use Rattle.packets.specs.declared.Command.the-variants.{Initialise, Status, Update, Write, Read, Priority, Data, Shutdown}
 use Rattle.packets.specs.declared.Parsed.{Parsed}
 use Rattle.packets.specs.declared.Parsed.the-variants.{Nothing, Error, Acknowledgement, Asked}
 use Rattle.packets.specs.Commands.{fieldsBounded, rowOf}
+use Rattle.packets.specs.Reading.{crcRight}
 use Rattle.packets.specs.Answers.{errorAnswer}
 use Rattle.params.specs.declared.Params.{Params}
 use Rattle.params.specs.Rules.{isId, allowed}
@@ -69,9 +70,19 @@ checkOf c p =
 abbrev pub answered : List ℕ → List ℕ → Told
 answered room answer = told (bytes (length answer)) (sets room 0 answer)
 
--- a command, with the error that it gets: none is an answer of the packet table's length, "first byte, 0x01, .."
+-- a command answered without error
+pub record Succeeds (c : Command) (room : List ℕ) (t : Told) : Type 0 where
+  -- as many bytes as the packet table has
+  pub count : t .said ≡ bytes (rowOf c .answer)
+  -- "first byte, 0x01, .. CRC"
+  pub start : take 2 (t .bytes) ≡ rowOf c .code ∷ 0x01 ∷ []
+  pub crc : crcRight (take (rowOf c .answer) (t .bytes)) ≡ true
+  -- "the rest of the room is kept"
+  pub rest : drop (rowOf c .answer) (t .bytes) ≡ drop (rowOf c .answer) room
+
+-- a command, with the error that it gets
 abbrev pub AnswersCommand : Command → ℕ → List ℕ → Told → Type 0
-AnswersCommand c zero room t = (t .said ≡ bytes (rowOf c .answer)) × (take 2 (t .bytes) ≡ rowOf c .code ∷ 0x01 ∷ [])
+AnswersCommand c zero room t = Succeeds c room t
 AnswersCommand c (suc n) room t = t ≡ answered room (errorAnswer (rowOf c .code) (suc n))
 
 -- "Empty packet: answer of length 0"; an error of checks 2 to 6; an acknowledgement "gets no answer"; a command by checks 7 to 9
