@@ -1,6 +1,6 @@
 -- What a reply shows: a block that waits, in a store whose ring is sound.
 -- Assumes nothing.
-use Prim.Native.Nat.{ℕ, _*_, _<_}
+use Prim.Native.Nat.{ℕ, _<_}
 use native.Mathlib.Omega.{arith}
 use mathlib.Core.Path.{_≡_, refl, sym, ap, subst, _∙_}
 use mathlib.Core.Bool.{Bool, true, false, _||_, false≢true}
@@ -13,7 +13,7 @@ use borrow.Author.Tests.{eqb-false}
 use Rattle.blocks.specs.declared.Store.{Store}
 use Rattle.blocks.specs.declared.Store.the-variants.{Priority, Ordinary}
 use Rattle.blocks.specs.declared.Ring.{Ring}
-use Rattle.blocks.specs.Stores.{capacityOf, storeOf, soundRing, emptyRing, oldestOf}
+use Rattle.blocks.specs.Stores.{capacityOf, storeOf, soundRing, oldestOf}
 use Rattle.blocks.proofs.Laws.{oldest-whole, empty-sound}
 use Rattle.packets.specs.declared.Command.{Command}
 use Rattle.packets.specs.declared.Command.the-variants as command
@@ -29,9 +29,10 @@ use Rattle.rules.specs.declared.Reply.the-variants.{Success, Failure, Report, V
 use Rattle.rules.specs.State.{ringOf, remainingOf, withExchange, freshPod, soundPod}
 use Rattle.rules.specs.Obey.{obeyed, shut, initialisedPod, initialiseRule, statusRule, updateRule, writeRule, readBy, readRule, receiveRule, shutdownRule, ruleOf, isInitialise, obeyOf}
 use Rattle.rules.proofs.Pick.{by-test}
-use Rattle.rules.proofs.Bounds.{PodIn, pod-in}
+use Rattle.rules.proofs.Bounds.{pod-in}
 use Rattle.pod.specs.Answering.{Ringed, Waits, Sized}
 
+-- the ring of either store
 pub ringed-at : (s : Store) (p : Pod) → Ringed p → soundRing (capacityOf s) (ringOf s p) ≡ true
 ringed-at Priority p h = h .priority
 ringed-at Ordinary p h = h .ordinary
@@ -44,6 +45,7 @@ block-whole Ordinary r a b h ok w = oldest-whole 128 r b ok (h .ordinary) w
 
 -- ---- whatever is obeyed, the rings stay sound, and a block that is replied waits
 
+-- what the writer of a reply asks
 pub record Shows (o : Obeyed) : Type 0 where
   pub rings : Ringed (o .pod)
   pub waits : Waits (o .reply) (o .pod)
@@ -115,6 +117,7 @@ module _ (p : Pod) (h : Ringed p) where
   rule-shows command.Data = receive-shows Ordinary
   rule-shows command.Shutdown = kept (record { priority = h .priority; ordinary = h .ordinary }) refl
 
+-- so it is for every command on a sound pod
 pub obeyed-shows : (c : Command) (p : Pod) → soundPod p ≡ true → Shows (obeyOf c (shut p))
 unfolding obeyOf
 obeyed-shows c p ok =

@@ -16,7 +16,8 @@ use Rattle.rules.specs.Refusals.{Said, saidOf}
 use Rattle.rules.specs.Calls.{Outcome, Powered, Put, Worded, Sampled, Piping, Packeted, packetCall, powerCall, deadlineCall, putCall, commandCall, dataInCall, dataOutCall, statusCall, samplesCall, byteCall, timeoutCall}
 use Rattle.rules.proofs.Said.{said-once}
 use Rattle.pod.specs.Answering.{packetedBy}
-use Rattle.pod.specs.Outcomes.{called, framed, passing, outcomeBy, wordedBy, poweredBy, putBy, sampledBy, pipingBy}
+use Rattle.commands.specs.Outcomes.{called}
+use Rattle.pod.specs.Outcomes.{framed, passing, outcomeBy, wordedBy, poweredBy, putBy, sampledBy, pipingBy}
 
 -- what is allowed by x, said through `by`, is one thing
 abbrev pub Decided : {A B : Type 0} → (A → B) → B → Type 0
@@ -82,35 +83,46 @@ piping-once r q e =
 
 -- ---- the calls
 
+-- power on: one answer, one state, one content of the three tables
 pub power-decided : (t : Three) → Decided powered (powerCall t)
 power-decided t = decided powered powered-once (powerCall t)
 
+-- a packet: one answer, one state, one content of the room and of the three tables
 pub packet-decided : (packet room a b : List ℕ) (t : Three) (p : Pod) → Decided packeted (packetCall packet room a b t p)
 packet-decided packet room a b t p = decided packeted packeted-once (packetCall packet room a b t p)
 
+-- the deadline: one answer, one state
 pub deadline-decided : (p : Pod) → Decided outcomeBy (deadlineCall p)
 deadline-decided p = decided outcomeBy outcome-once (deadlineCall p)
 
+-- put: one answer, one state, one content of the store
 pub put-decided : (s : Store) (b store : List ℕ) (p : Pod) → Decided put (putCall s b store p)
 put-decided s b store p = decided put put-once (putCall s b store p)
 
+-- a command word: one answer, one state, one content of the three tables
 pub command-decided : (w : ℕ) (t : Three) (p : Pod) → Decided worded (commandCall w t p)
 command-decided w t p = decided worded worded-once (commandCall w t p)
 
+-- a data word in: likewise
 pub in-decided : (x : ℕ) (t : Three) (p : Pod) → Decided worded (dataInCall x t p)
 in-decided x t p = decided worded worded-once (dataInCall x t p)
 
+-- a data word out: one answer, one state
 pub out-decided : (t : Three) (p : Pod) → Decided outcomeBy (dataOutCall t p)
 out-decided t p = decided outcomeBy outcome-once (dataOutCall t p)
 
+-- the status word: likewise
 pub status-decided : (p : Pod) → Decided outcomeBy (statusCall p)
 status-decided p = decided outcomeBy outcome-once (statusCall p)
 
+-- samples: one answer, two frames
 pub samples-decided : (check : ℕ) (xs : List ℕ) (p : Pod) → Decided sampledBy (samplesCall check xs p)
 samples-decided check xs p = decided sampledBy sampled-once (samplesCall check xs p)
 
+-- a pipe byte: one answer, one packet sent, one state
 pub byte-decided : (b : ℕ) (p : Pod) → Decided pipingBy (byteCall b p)
 byte-decided b p = decided pipingBy piping-once (byteCall b p)
 
+-- a pipe timeout: likewise
 pub timeout-decided : (p : Pod) → Decided pipingBy (timeoutCall p)
 timeout-decided p = decided pipingBy piping-once (timeoutCall p)

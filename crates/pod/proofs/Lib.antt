@@ -1,9 +1,5 @@
-pub mod Choice
 pub mod GateLaws
 pub mod CallLaws
-pub mod Lent
-pub mod ObeyLaws
-pub mod AcknowledgeLaws
 pub mod AnswerLaws
 pub mod PortLaws
 pub mod Decided

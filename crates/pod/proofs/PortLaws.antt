@@ -22,11 +22,11 @@ use Rattle.rules.specs.Refusals.{numberOf, saidOf, Row, roomRow, allRow, stateR
 use Rattle.rules.specs.Obey.{shut, obeyOf, acknowledgedOf}
 use Rattle.rules.specs.Calls.{Heard, heardBy, heardOf, replyBytes, spokenBytes, answeredWith, answeredBy, packetCall}
 use Rattle.rules.proofs.Pick.{and-left, and-right}
-use Rattle.pod.specs.Outcomes.{called}
+use Rattle.commands.specs.Outcomes.{called}
 use Rattle.pod.specs.Answering.{Sized, Tables, Answered, repliedBy, packetedBy}
 use Rattle.pod.specs.declared.port.Replied.{Replied}
 use Rattle.pod.proofs.GateLaws.{Clear, First, lowest-first, lowest-none, not-zero}
-use Rattle.pod.proofs.Lent.{store-length, table-lengths}
+use Rattle.commands.proofs.Lent.{store-length, table-lengths}
 
 -- a command's packet is not empty
 pub asked-some : (bytes : List ℕ) (c : Command) → readOf bytes ≡ Asked c → 0 < length bytes
@@ -36,20 +36,24 @@ asked-some (b ∷ bs) c e = omega arith
 -- ---- a packet that is heard
 
 module _ (bytes room a b : List ℕ) (p : Pod) where
+  -- an empty packet: no answer, no change
   pub nothing-heard : readOf bytes ≡ Nothing → {r : Replied} → r ≡ repliedBy 0 p false → Answered (heardOf (readOf bytes) p) a b room room r
   unfolding heardOf spokenBytes
   nothing-heard e h = rw (e, h) (record { written = record { room = refl; count = refl }; pod = refl; restart = refl })
 
+  -- a packet that is read as an error: that error, and the exchange closes
   pub error-heard : (f n : ℕ) → readOf bytes ≡ Error f n → {k : ℕ} {after : List ℕ} → Written (errorAnswer f n) room after k
       → {q : Pod} → q ≡ shut p → {r : Replied} → r ≡ repliedBy k q false → Answered (heardOf (readOf bytes) p) a b room after r
   unfolding heardOf spokenBytes replyBytes
   error-heard f n e w k h = rw (e, h) (record { written = w; pod = k; restart = refl })
 
+  -- an acknowledgement: no answer
   pub acknowledgement-heard : (f : ℕ) (one : Bool) → readOf bytes ≡ Acknowledgement f one
       → {q : Pod} → q ≡ acknowledgedOf f one p → {r : Replied} → r ≡ repliedBy 0 q false → Answered (heardOf (readOf bytes) p) a b room room r
   unfolding heardOf spokenBytes
   acknowledgement-heard f one e k h = rw (e, h) (record { written = record { room = refl; count = refl }; pod = k; restart = refl })
 
+  -- a command is answered with the packet's own first byte
   pub command-heard : (c : Command) → readOf bytes ≡ Asked c → (after : List ℕ) (r : Replied)
       → Answered (heardBy (getD bytes 0 0) (obeyOf c (shut p))) a b room after r → Answered (heardOf (readOf bytes) p) a b room after r
   unfolding heardOf
@@ -72,13 +76,16 @@ answered h room a b t w k e = rw (e, k, w .pod, w .restart, w .written .room, w 
 module _ (bytes room a b : List ℕ) (t : Three) (p : Pod) where
   -- ---- the refusals, the lowest first, and then what is heard
 
+  -- its rows
   abbrev packetRows : List Row
   packetRows = roomRow room ∷ allRow a b t ∷ stateRow p ∷ []
 
+  -- a packet is refused by the first row that holds, and changes nothing
   pub packet-refused : (why : Refusal) → First (numberOf why) packetRows → packetedBy (called (Refused why) p) room t ≡ packetCall bytes room a b t p
   unfolding packetCall saidOf
   packet-refused why f = rw (lowest-first f, not-zero why)
 
+  -- and heard where none holds
   pub packet-heard : Clear packetRows → packetCall bytes room a b t p ≡ answeredBy (heardOf (readOf bytes) p) room a b t
   unfolding packetCall
   packet-heard k = rw (lowest-none k)
@@ -88,6 +95,7 @@ module _ (a b : List ℕ) (t : Three) (h : (storeSized Priority a && (storeSized
   rest : (storeSized Ordinary b && tablesSized t) ≡ true
   rest = and-right (storeSized Priority a) (storeSized Ordinary b && tablesSized t) h
 
+  -- of the stores
   pub stores-sized : Sized a b
   stores-sized =
       record {
@@ -95,5 +103,6 @@ module _ (a b : List ℕ) (t : Three) (h : (storeSized Priority a && (storeSized
         ordinary = store-length Ordinary b (and-left (storeSized Ordinary b) (tablesSized t) rest);
       }
 
+  -- and of the tables
   pub tables-sized : Tables t
   tables-sized = table-lengths t (and-right (storeSized Ordinary b) (tablesSized t) rest)

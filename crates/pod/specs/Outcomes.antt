@@ -13,34 +13,34 @@ use Rattle.rules.specs.declared.Pod.{Pod}
 use Rattle.rules.specs.Refusals.{saidOf}
 use Rattle.rules.specs.Calls.{Outcome, Powered, Put, Worded, Sampled, Piping}
 
-abbrev pub called : Answer → Pod → Called
-called a p = record { answer = a; pod = p }
-
+-- an answer with the two frames
 abbrev pub framed : Answer → Frames → Framed
 framed a f = record { answer = a; frames = f }
 
+-- an answer with what is sent and the next state
 abbrev pub passing : Answer → Sent → Pod → Passed
 passing a s p = record { answer = a; sent = s; pod = p }
 
--- the answer and the next state
+-- what deadline, data word out and status word give: what is said, the next state
 abbrev pub outcomeBy : Called → Outcome
 outcomeBy r = record { said = saidOf (r .answer); pod = r .pod }
 
--- and the tables
+-- command word and data word in: the tables at exit too
 abbrev pub wordedBy : Called → Three → Worded
 wordedBy r t = record { said = saidOf (r .answer); pod = r .pod; tables = t }
 
+-- power on: the tables at exit too
 abbrev pub poweredBy : Called → Three → Powered
 poweredBy r t = record { said = saidOf (r .answer); pod = r .pod; tables = t }
 
--- and the store
+-- put: the store at exit too
 abbrev pub putBy : Called → List ℕ → Put
 putBy r s = record { said = saidOf (r .answer); pod = r .pod; store = s }
 
--- the answer and the two frames
+-- samples: what is said, the two frames
 abbrev pub sampledBy : Framed → Sampled
 sampledBy r = record { said = saidOf (r .answer); frames = r .frames }
 
--- the answer, what is sent, and the next state
+-- pipe byte and pipe timeout: what is said, what is sent, the next state
 abbrev pub pipingBy : Passed → Piping
 pipingBy r = record { said = saidOf (r .answer); sent = r .sent; pod = r .pod }

@@ -1,6 +1,6 @@
 // A reply is written into the answer room, from its start.
-use crate::changes::ring_of;
 use blocks::Store;
+use commands::ring_of;
 use packets::Report;
 use rules::Pod;
 use rules::Reply;

@@ -1,5 +1,5 @@
 // The byte pipe.
-use crate::gates::sound;
+use commands::sound;
 use pipe::Piped;
 use pipe::Sent;
 use rules::Answer;

@@ -1,11 +1,11 @@
 // The camera's blocks.
-use crate::changes::done;
-use crate::changes::refused;
-use crate::changes::ring_of;
-use crate::changes::with_ring;
-use crate::gates::sound;
-use crate::gates::store_sized;
 use blocks::Store;
+use commands::done;
+use commands::refused;
+use commands::ring_of;
+use commands::sound;
+use commands::store_sized;
+use commands::with_ring;
 use rules::Called;
 use rules::Pod;
 use rules::Refusal;

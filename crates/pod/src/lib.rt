@@ -1,11 +1,7 @@
 // The pod's calls: each promises its definition in `rules`, whatever arrives.
-mod acknowledge;
 mod answer;
 mod bytes;
 mod camera;
-mod changes;
-mod gates;
-mod obey;
 mod port;
 mod power;
 mod survey;

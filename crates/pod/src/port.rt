@@ -1,13 +1,13 @@
 // The packet call: a packet is read, obeyed and answered.
-use crate::acknowledge::acknowledged;
 use crate::answer::write_reply;
-use crate::changes::refused;
-use crate::changes::shut;
-use crate::gates::sound;
-use crate::gates::store_sized;
-use crate::gates::tables_sized;
-use crate::obey::obey;
 use blocks::Store;
+use commands::acknowledged;
+use commands::obey;
+use commands::refused;
+use commands::shut;
+use commands::sound;
+use commands::store_sized;
+use commands::tables_sized;
 use packets::Command;
 use packets::Parsed;
 use rules::Answer;
@@ -24,7 +24,7 @@ ghost use Rattle.rules.specs.State.{soundPod};
 ghost use Rattle.rules.specs.Refusals.{storeSized, tablesSized};
 ghost use Rattle.rules.specs.Obey.{shut, obeyOf};
 ghost use Rattle.rules.specs.Calls.{heardBy, heardOf, packetCall};
-ghost use Rattle.pod.specs.Outcomes.{called};
+ghost use Rattle.commands.specs.Outcomes.{called};
 ghost use Rattle.pod.specs.Answering.{Sized, Tables, Answered, repliedBy, packetedBy};
 
 // The answer's length, the next state, and whether the tables go to their starts.

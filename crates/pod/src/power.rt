@@ -1,10 +1,10 @@
 // Power on, and the deadline of an exchange.
-use crate::changes::done;
-use crate::changes::refused;
-use crate::changes::shut;
-use crate::gates::sound;
-use crate::gates::tables_sized;
-use crate::obey::fresh_pod;
+use commands::done;
+use commands::fresh_pod;
+use commands::refused;
+use commands::shut;
+use commands::sound;
+use commands::tables_sized;
 use rules::Called;
 use rules::Pod;
 use rules::Refusal;

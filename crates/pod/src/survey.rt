@@ -1,5 +1,5 @@
 // The sample sets of a survey.
-use crate::gates::sound;
+use commands::sound;
 use frames::Frames;
 use rules::Answer;
 use rules::Framed;

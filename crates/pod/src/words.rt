@@ -1,7 +1,7 @@
 // The table word port: command word, data words in and out, status word.
-use crate::changes::refused;
-use crate::gates::sound;
-use crate::gates::tables_sized;
+use commands::refused;
+use commands::sound;
+use commands::tables_sized;
 use rules::Answer;
 use rules::Called;
 use rules::Pod;
@@ -11,7 +11,8 @@ ghost use mathlib.Core.Path.{_≡_};
 ghost use Rattle.tables.specs.Tables.{three};
 ghost use Rattle.rules.specs.State.{withWords};
 ghost use Rattle.rules.specs.Calls.{commandCall, dataInCall, dataOutCall, statusCall};
-ghost use Rattle.pod.specs.Outcomes.{called, outcomeBy, wordedBy};
+ghost use Rattle.commands.specs.Outcomes.{called};
+ghost use Rattle.pod.specs.Outcomes.{outcomeBy, wordedBy};
 
 // The answer, beside the pod with the port's next state.
 fn worded(answer: Answer, words: Words, pod: Pod) -> Called

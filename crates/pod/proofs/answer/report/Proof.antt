@@ -1,5 +1,4 @@
 -- `pod::answer::report` meets its contract: what waits fits. Assumes nothing.
-use mathlib.Core.Path.{_≡_, refl, sym, ap, _∙_}
 use native.Mathlib.Omega.{arith}
 use Rattle.blocks.proofs.Places.{bounds}
 use Rattle.rules.specs.Obey.{reportOf}

@@ -1,5 +1,5 @@
 -- `pod::answer::write_block` meets its contract: the oldest block is whole. Assumes nothing.
-use mathlib.Core.Path.{_≡_, refl, sym, ap, _∙_}
+use mathlib.Core.Path.{ap, _∙_}
 use lib.ListN.{length}
 use Rattle.pod.proofs.AnswerLaws.{block-whole}
 use borrow.Author.Needs.{needs}

@@ -9,7 +9,7 @@ use Rattle.rules.specs.State.{soundPod}
 use Rattle.rules.specs.Refusals.{numberOf, storeSized}
 use Rattle.pod.proofs.GateLaws.{none, past, here, after, as-row}
 use Rattle.pod.proofs.CallLaws.{put-refused, put-done}
-use Rattle.pod.proofs.Lent.{sound-ring, store-length}
+use Rattle.commands.proofs.Lent.{sound-ring, store-length}
 use borrow.Author.Needs.{needs}
 use Rattle.pod.proofs.camera.put.Statement.{statement}
 use Rattle.pod.proofs.camera.put.Tie as tie

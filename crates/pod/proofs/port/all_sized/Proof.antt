@@ -1,5 +1,4 @@
 -- `pod::port::all_sized` meets its contract. Assumes nothing.
-use mathlib.Core.Path.{_≡_, refl, sym, ap, _∙_}
 use borrow.Author.Needs.{needs}
 use Rattle.pod.proofs.port.all_sized.Statement.{statement}
 use Rattle.pod.proofs.port.all_sized.Tie as tie

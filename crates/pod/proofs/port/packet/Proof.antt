@@ -5,7 +5,7 @@ use borrow.Author.Tests.{lt-ltb, le-ltb}
 use Rattle.tables.specs.Tables.{three}
 use Rattle.rules.specs.declared.Refusal.the-variants.{Room, Size, State}
 use Rattle.rules.specs.Refusals.{numberOf}
-use Rattle.pod.proofs.Choice.{is-true}
+use Rattle.commands.proofs.Choice.{is-true}
 use Rattle.pod.proofs.GateLaws.{none, past, here, after, as-row}
 use Rattle.pod.proofs.PortLaws.{packet-refused, packet-heard, answered, stores-sized, tables-sized}
 use borrow.Author.Needs.{needs}

@@ -1,5 +1,5 @@
 -- `pod::port::restart` meets its contract. Assumes nothing.
-use mathlib.Core.Path.{_≡_, refl, sym, ap, _∙_}
+use mathlib.Core.Path.{ap}
 use borrow.Author.Tests.{not-true, not-false}
 use Rattle.tables.specs.Port.{Tabled}
 use borrow.Author.Needs.{needs}

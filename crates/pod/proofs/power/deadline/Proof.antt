@@ -1,4 +1,8 @@
 -- `pod::power::deadline` meets its contract. Assumes nothing.
+use mathlib.Core.Path.{ap, _∙_}
+use Rattle.rules.specs.declared.Answer.the-variants.{Done}
+use Rattle.commands.specs.Outcomes.{called}
+use Rattle.pod.specs.Outcomes.{outcomeBy}
 use Rattle.rules.specs.declared.Refusal.the-variants.{State}
 use Rattle.rules.specs.Refusals.{numberOf}
 use Rattle.pod.proofs.GateLaws.{none, past, here, as-row}
@@ -26,7 +30,7 @@ done-requires c κs = search needs
 returns-2 : tie.Need-returns-2
 returns-2 c =
     let e1 = c .before .before in
-    rw (c .done .ensures, c .before .shut .ensures) (deadline-done _ (past (as-row (e1 .before .sound .ensures) (e1 .if1 .left)) none))
+    ap outcomeBy (c .done .ensures ∙ ap (called Done) (c .before .shut .ensures)) ∙ deadline-done _ (past (as-row (e1 .before .sound .ensures) (e1 .if1 .left)) none)
 
 pub deadline-spec : {M : Type 1} → statement M
 deadline-spec =

@@ -5,7 +5,7 @@ use Rattle.rules.specs.declared.Refusal.the-variants.{Size}
 use Rattle.rules.specs.Refusals.{numberOf}
 use Rattle.pod.proofs.GateLaws.{none, past, here, as-row}
 use Rattle.pod.proofs.CallLaws.{power-refused, power-done}
-use Rattle.pod.proofs.Lent.{table-lengths}
+use Rattle.commands.proofs.Lent.{table-lengths}
 use borrow.Author.Needs.{needs}
 use Rattle.pod.proofs.power.power_on.Statement.{statement}
 use Rattle.pod.proofs.power.power_on.Tie as tie
@@ -37,7 +37,8 @@ returns c =
 start-requires : tie.Need-start-requires
 start-requires c κs =
     let e1 = c .before .before .before in
-    table-lengths _ (sym (e1 .before .tables-sized .ensures) ∙ not-false _ (e1 .if1 .left))
+    let sizes = table-lengths _ (sym (e1 .before .tables-sized .ensures) ∙ not-false _ (e1 .if1 .left)) in
+    search needs
 
 done-requires : tie.Need-done-requires
 done-requires c κs = search needs

@@ -5,7 +5,7 @@ use Rattle.rules.specs.declared.Refusal.the-variants.{Size, State}
 use Rattle.rules.specs.Refusals.{numberOf}
 use Rattle.pod.proofs.GateLaws.{none, past, here, after, as-row}
 use Rattle.pod.proofs.CallLaws.{command-refused, command-done}
-use Rattle.pod.proofs.Lent.{table-lengths}
+use Rattle.commands.proofs.Lent.{table-lengths}
 use borrow.Author.Needs.{needs}
 use Rattle.pod.proofs.words.command_word.Statement.{statement}
 use Rattle.pod.proofs.words.command_word.Tie as tie
@@ -73,7 +73,8 @@ returns-3 c =
     let d = c .before .before .before .before .before .before .before in
     let e2 = d .before .before .before .before .before in
     let e1 = e2 .before .before in
-    rw (c .worded .ensures) (command-done _ _ _ _ (d .command .ensures) (past (as-row (e1 .before .tables-sized .ensures) (e1 .if1 .left)) (past (as-row (e2 .before .sound .ensures) (e2 .if2 .left)) none)))
+    let a = e1 .before .before .before .before .before .before .before .before .args in
+    rw (c .worded .ensures) (command-done _ (a .pod) _ _ (d .command .ensures) (past (as-row (e1 .before .tables-sized .ensures) (e1 .if1 .left)) (past (as-row (e2 .before .sound .ensures) (e2 .if2 .left)) none)))
 
 pub command-word-spec : {M : Type 1} → statement M
 command-word-spec =

@@ -6,7 +6,7 @@ use Rattle.rules.specs.Refusals.{numberOf}
 use Rattle.rules.proofs.Bounds.{pod-in}
 use Rattle.pod.proofs.GateLaws.{none, past, here, after, as-row}
 use Rattle.pod.proofs.CallLaws.{in-refused, in-done}
-use Rattle.pod.proofs.Lent.{table-lengths}
+use Rattle.commands.proofs.Lent.{table-lengths}
 use borrow.Author.Needs.{needs}
 use Rattle.pod.proofs.words.data_in.Statement.{statement}
 use Rattle.pod.proofs.words.data_in.Tie as tie

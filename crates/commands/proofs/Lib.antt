@@ -1,0 +1,4 @@
+pub mod Choice
+pub mod Lent
+pub mod ObeyLaws
+pub mod AcknowledgeLaws
