@@ -42,10 +42,10 @@ wordsFrom w (c ∷ cs) = wordIn (step w c .told .said) ++ wordsFrom (step w c .w
 abbrev pub wordsOut : List Call → List ℕ
 wordsOut cs = wordsFrom justInitialised cs
 
--- an open transfer: 0 for a load or 1 for a read, the table, the count of data words, how many words along
+-- an open transfer: 0 for a load or 1 for a read, the table, the count of data words, how many words along; 2 for an address
 abbrev pub transferShown : Transfer → List ℕ
 transferShown Idle = []
-transferShown Address = []
+transferShown Address = 2 ∷ []
 transferShown (Load t n k) = 0 ∷ numberOf t ∷ dataCount n ∷ k ∷ []
 transferShown (Read t n k at) = 1 ∷ numberOf t ∷ dataCount n ∷ k ∷ []
 
