@@ -1,0 +1,9 @@
+pub mod Choice
+pub mod Lists
+pub mod Before
+pub mod Held
+pub mod Run
+pub mod Cases
+pub mod Spelled
+pub mod Numerals
+pub mod Laws

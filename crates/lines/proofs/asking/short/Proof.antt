@@ -1,0 +1,63 @@
+-- By the letter and what stands behind it.
+use mathlib.Core.Path.{ap, _∙_}
+use Prim.Native.Nat.{ℕ}
+use lib.ListN.{length}
+use denote.Ref.{now}
+use borrow.Author.Tests.{ne-eqb}
+use Rattle.lines.specs.Asked.{wordOf, byteOf, shortOf, sayLine}
+use borrow.Author.Needs.{needs}
+use Rattle.lines.proofs.asking.short.Statement.{statement}
+use Rattle.lines.proofs.asking.short.Tie as tie
+
+one-word-requires : tie.Need-one-word-requires
+one-word-requires c κs = search needs
+
+word-of-requires : tie.Need-word-of-requires
+word-of-requires c κs = search needs
+
+returns : tie.Need-returns
+unfolding shortOf
+returns c =
+    let a = c .before .before .before .before .args in
+    rw (c .before .before .if1 .taken)
+    (c .word-of .ensures ∙ ap (λ (w : ℕ). sayLine (wordOf (a .letter) w)) (c .before .one-word .ensures))
+
+one-byte-requires : tie.Need-one-byte-requires
+one-byte-requires c κs = search needs
+
+byte-of-requires : tie.Need-byte-of-requires
+byte-of-requires c κs = search needs
+
+returns-2 : tie.Need-returns-2
+unfolding shortOf
+returns-2 c =
+    rw (c .before .before .if2 .taken) (c .byte-of .ensures ∙ ap (λ (b : ℕ). sayLine (byteOf b)) (c .before .one-byte .ensures))
+
+bare-requires : tie.Need-bare-requires
+bare-requires c κs = search needs
+
+returns-3 : tie.Need-returns-3
+unfolding shortOf
+returns-3 c =
+    let a = c .before .before .before .before .before .args in
+    rw (c .before .before .before .if1 .left, ne-eqb (a .letter) 73 (c .before .before .if2 .left), c .before .if3 .taken) (c .bare .ensures)
+
+returns-4 : tie.Need-returns-4
+unfolding shortOf sayLine
+returns-4 c =
+    let a = c .before .before .before .before .args in
+    rw (c .before .before .if1 .left, ne-eqb (a .letter) 73 (c .before .if2 .left), ne-eqb (length (now (a .text))) 0 (c .if3 .left))
+
+pub short-spec : {M : Type 1} → statement M
+short-spec =
+    tie.close
+    (tie.spec
+    one-word-requires
+    word-of-requires
+    returns
+    one-byte-requires
+    byte-of-requires
+    returns-2
+    bare-requires
+    returns-3
+    returns-4)

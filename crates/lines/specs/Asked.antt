@@ -1,0 +1,128 @@
+-- What a line of the console asks. The letters: P 80, D 68, B 66, C 67, W 87, R 82, S 83, A 65, I 73, T 84, Z 90; p 112, o 111.
+-- Assumes nothing.
+use mathlib.Core.Bool.{Bool, false, _&&_, _||_, cond}
+use mathlib.Core.List.{List, [], _∷_}
+use Prim.Native.Nat.{ℕ}
+use lib.Dec.{ltb, eqb}
+use lib.ListN.{length, take, drop, getD}
+use Rattle.blocks.specs.declared.Store.{Store}
+use Rattle.blocks.specs.declared.Store.the-variants.{Priority, Ordinary}
+use Rattle.lines.specs.declared.Items.{Items}
+use Rattle.lines.specs.declared.Items.the-variants.{Good, Bad}
+use Rattle.lines.specs.declared.Line.{Line}
+use Rattle.lines.specs.declared.Line.the-variants.{Packet, Deadline, Put, Command, Data, Read, Status, Samples, Byte, Timeout, Power, Other}
+use Rattle.lines.specs.Text.{Reading, reading, bytesIn, wordsIn, byteItem, wordItem}
+
+-- a call with what it is given, a case for each line of the table; and every other line
+pub data Asked : Type 0 where
+  packet : List ℕ → Asked
+  deadline : Asked
+  put : Store → List ℕ → Asked
+  command : ℕ → Asked
+  dataIn : ℕ → Asked
+  dataOut : Asked
+  status : Asked
+  samples : ℕ → List ℕ → Asked
+  pipeByte : ℕ → Asked
+  pipeTimeout : Asked
+  power : Asked
+  other : Asked
+
+-- what the line asks, and the bytes and the words that are read of it
+pub record Told : Type 0 where
+  pub asked : Asked
+  pub bytes : List ℕ
+  pub words : List ℕ
+
+abbrev pub told : Asked → List ℕ → List ℕ → Told
+told a bs ws = record { asked = a; bytes = bs; words = ws }
+
+-- a run of items that has to be whole
+abbrev pub wholly : Reading → (List ℕ → Asked) → Asked
+wholly r f = cond (r .whole) (f (r .values)) other
+
+-- exactly one byte, 256 where it is not; exactly one word, 65536 where it is not
+unfoldable pub oneByte : List ℕ → ℕ
+oneByte t = cond (eqb (length t) 3) (byteItem (getD t 0 0) (getD t 1 0) (getD t 2 0)) 256
+
+unfoldable pub oneWord : List ℕ → ℕ
+oneWord t = cond (eqb (length t) 5) (wordItem (getD t 0 0) (getD t 1 0) (getD t 2 0) (getD t 3 0) (getD t 4 0)) 65536
+
+-- `P` bytes: what stands behind the letter is bytes. A line of any other letter is none
+unfoldable pub packetIn : List ℕ → Reading
+packetIn t = cond (eqb (getD t 0 0) 80) (bytesIn (drop 1 t)) (reading [] false)
+
+-- `B p` bytes, `B o` bytes
+abbrev pub isPut : ℕ → List ℕ → Bool
+isPut c t = eqb (getD t 1 0) 32 && eqb (getD t 2 0) c
+
+abbrev pub putting : Store → Reading → Told
+putting s r = told (wholly r (put s)) (r .values) []
+
+unfoldable pub putIn : List ℕ → Told
+putIn t =
+    cond (isPut 112 t) (putting Priority (bytesIn (drop 3 t)))
+    (cond (isPut 111 t) (putting Ordinary (bytesIn (drop 3 t)))
+    (told other [] []))
+
+-- `A` byte words
+abbrev pub sampling : ℕ → Reading → Told
+sampling check r = told (wholly r (samples check)) [] (r .values)
+
+unfoldable pub samplesIn : List ℕ → Told
+samplesIn t =
+    cond (ltb (oneByte (take 3 (drop 1 t))) 256) (sampling (oneByte (take 3 (drop 1 t))) (wordsIn (drop 4 t)))
+    (told other [] [])
+
+-- the letters with nothing behind them: `D`, `R`, `S`, `T`, `Z`
+unfoldable pub bareOf : ℕ → Asked
+bareOf c =
+    cond (eqb c 68) deadline
+    (cond (eqb c 82) dataOut
+    (cond (eqb c 83) status
+    (cond (eqb c 84) pipeTimeout
+    (cond (eqb c 90) power
+    other))))
+
+-- `C` word, `W` word
+unfoldable pub wordOf : ℕ → ℕ → Asked
+wordOf c w = cond (ltb w 65536) (cond (eqb c 67) (command w) (dataIn w)) other
+
+-- `I` byte
+unfoldable pub byteOf : ℕ → Asked
+byteOf b = cond (ltb b 256) (pipeByte b) other
+
+-- the letters with one item behind them, and the bare letters
+unfoldable pub shortOf : ℕ → List ℕ → Asked
+shortOf c t =
+    cond (eqb c 67 || eqb c 87) (wordOf c (oneWord t))
+    (cond (eqb c 73) (byteOf (oneByte t))
+    (cond (eqb (length t) 0) (bareOf c) other))
+
+-- "A line is a letter and items after one space each": the table, by the letter
+unfoldable pub lineOf : List ℕ → Told
+lineOf t =
+    cond (eqb (getD t 0 0) 80) (told (wholly (packetIn t) packet) (packetIn t .values) [])
+    (cond (eqb (getD t 0 0) 66) (putIn t)
+    (cond (eqb (getD t 0 0) 65) (samplesIn t)
+    (told (shortOf (getD t 0 0) (drop 1 t)) [] [])))
+
+-- how the code says it: a run of bytes or words by its count, since the values lie in lent memory
+unfoldable pub sayLine : Asked → Line
+sayLine (packet bs) = Packet (length bs)
+sayLine deadline = Deadline
+sayLine (put s bs) = Put s (length bs)
+sayLine (command w) = Command w
+sayLine (dataIn w) = Data w
+sayLine dataOut = Read
+sayLine status = Status
+sayLine (samples k ws) = Samples k (length ws)
+sayLine (pipeByte b) = Byte b
+sayLine pipeTimeout = Timeout
+sayLine power = Power
+sayLine other = Other
+
+-- a run of items that was read: the line with its count, or another line
+unfoldable pub counted : Items → (ℕ → Line) → Line
+counted (Good n) f = f n
+counted Bad f = Other

@@ -1,0 +1,202 @@
+// What a line asks.
+use crate::Items;
+use crate::Line;
+use crate::reading::byte_item;
+use crate::reading::bytes_in;
+use crate::reading::word_item;
+use crate::reading::words_in;
+use blocks::Store;
+ghost use mathlib.Core.Path.{_≡_};
+ghost use Prim.Native.Nat.{_*_, _≤_};
+ghost use lib.ListN.{length};
+ghost use lib.Seq.{sets};
+ghost use Rattle.lines.specs.Text.{itemsOf};
+ghost use Rattle.lines.specs.Asked.{oneByte, oneWord, packetIn, putIn, samplesIn, bareOf, wordOf, byteOf, shortOf, lineOf, sayLine, counted};
+
+// Exactly one byte; 256 where the text is none.
+fn one_byte(text: &[u8]) -> u16
+    ensures { λ r. ⌜ r ≡ oneByte (now (text .entry)) ⌝ }
+{
+    if text.len() == 3 {
+        byte_item(text[0], text[1], text[2])
+    } else {
+        256
+    }
+}
+
+// Exactly one word; 65536 where the text is none.
+fn one_word(text: &[u8]) -> u32
+    ensures { λ r. ⌜ r ≡ oneWord (now (text .entry)) ⌝ }
+{
+    if text.len() == 5 {
+        word_item(text[0], text[1], text[2], text[3], text[4])
+    } else {
+        65536
+    }
+}
+
+// The bytes of a `P` line; any other line is bad.
+pub fn packet_line(line: &[u8], bytes: &mut [u8]) -> Items
+    requires { ⌜ length (now line) ≤ 3 * length (now bytes) ⌝ }
+    ensures { λ r. ⌜ r ≡ itemsOf (packetIn (now (line .entry))) ⌝ }
+    ensures { λ _. ⌜ now (bytes .exit) ≡ sets (now (bytes .entry)) 0 (packetIn (now (line .entry)) .values) ⌝ }
+{
+    if line.len() == 0 {
+        return Items::Bad;
+    }
+    if line[0] != 80 {
+        return Items::Bad;
+    }
+    bytes_in(&line[1..], bytes)
+}
+
+// `B p` or `B o`, and bytes.
+fn put_line(line: &[u8], bytes: &mut [u8]) -> Line
+    requires { ⌜ length (now line) ≤ 3 * length (now bytes) ⌝ }
+    ensures { λ r. ⌜ r ≡ sayLine (putIn (now (line .entry)) .asked) ⌝ }
+    ensures { λ _. ⌜ now (bytes .exit) ≡ sets (now (bytes .entry)) 0 (putIn (now (line .entry)) .bytes) ⌝ }
+{
+    if line.len() < 3 {
+        return Line::Other;
+    }
+    if line[1] != 32 {
+        return Line::Other;
+    }
+    if line[2] == 112 {
+        return put_of(Store::Priority, bytes_in(&line[3..], bytes));
+    }
+    if line[2] == 111 {
+        return put_of(Store::Ordinary, bytes_in(&line[3..], bytes));
+    }
+    Line::Other
+}
+
+fn put_of(which: Store, items: Items) -> Line
+    ensures { λ r. ⌜ r ≡ counted items (Line.Put which) ⌝ }
+{
+    match items {
+        Items::Good(n) => Line::Put(which, n),
+        Items::Bad => Line::Other,
+    }
+}
+
+// `A`, a byte and words.
+fn samples_line(line: &[u8], words: &mut [u16]) -> Line
+    requires { ⌜ length (now line) ≤ 5 * length (now words) ⌝ }
+    ensures { λ r. ⌜ r ≡ sayLine (samplesIn (now (line .entry)) .asked) ⌝ }
+    ensures { λ _. ⌜ now (words .exit) ≡ sets (now (words .entry)) 0 (samplesIn (now (line .entry)) .words) ⌝ }
+{
+    if line.len() < 4 {
+        return Line::Other;
+    }
+    let check = one_byte(&line[1..4]);
+    if check > 255 {
+        return Line::Other;
+    }
+    samples_of(check as u8, words_in(&line[4..], words))
+}
+
+fn samples_of(check: u8, items: Items) -> Line
+    ensures { λ r. ⌜ r ≡ counted items (Line.Samples check) ⌝ }
+{
+    match items {
+        Items::Good(n) => Line::Samples(check, n),
+        Items::Bad => Line::Other,
+    }
+}
+
+fn packet_of(items: Items) -> Line
+    ensures { λ r. ⌜ r ≡ counted items Line.Packet ⌝ }
+{
+    match items {
+        Items::Good(n) => Line::Packet(n),
+        Items::Bad => Line::Other,
+    }
+}
+
+// A letter with nothing behind it.
+fn bare(letter: u8) -> Line
+    ensures { λ r. ⌜ r ≡ sayLine (bareOf letter) ⌝ }
+{
+    if letter == 68 {
+        return Line::Deadline;
+    }
+    if letter == 82 {
+        return Line::Read;
+    }
+    if letter == 83 {
+        return Line::Status;
+    }
+    if letter == 84 {
+        return Line::Timeout;
+    }
+    if letter == 90 {
+        return Line::Power;
+    }
+    Line::Other
+}
+
+// A letter and one item, or nothing.
+fn short(letter: u8, text: &[u8]) -> Line
+    ensures { λ r. ⌜ r ≡ sayLine (shortOf letter (now (text .entry))) ⌝ }
+{
+    if (letter == 67) | (letter == 87) {
+        return word_of(letter, one_word(text));
+    }
+    if letter == 73 {
+        return byte_of(one_byte(text));
+    }
+    if text.len() == 0 {
+        bare(letter)
+    } else {
+        Line::Other
+    }
+}
+
+// A `C` or a `W` with its word.
+fn word_of(letter: u8, word: u32) -> Line
+    ensures { λ r. ⌜ r ≡ sayLine (wordOf letter word) ⌝ }
+{
+    if word > 65535 {
+        return Line::Other;
+    }
+    if letter == 67 {
+        Line::Command(word as u16)
+    } else {
+        Line::Data(word as u16)
+    }
+}
+
+// An `I` with its byte.
+fn byte_of(byte: u16) -> Line
+    ensures { λ r. ⌜ r ≡ sayLine (byteOf byte) ⌝ }
+{
+    if byte > 255 {
+        Line::Other
+    } else {
+        Line::Byte(byte as u8)
+    }
+}
+
+// A line of the console's table.
+pub fn read_line(line: &[u8], bytes: &mut [u8], words: &mut [u16]) -> Line
+    requires { ⌜ (length (now line) ≤ 3 * length (now bytes)) × (length (now line) ≤ 5 * length (now words)) ⌝ }
+    ensures { λ r. ⌜ r ≡ sayLine (lineOf (now (line .entry)) .asked) ⌝ }
+    ensures { λ _. ⌜ now (bytes .exit) ≡ sets (now (bytes .entry)) 0 (lineOf (now (line .entry)) .bytes) ⌝ }
+    ensures { λ _. ⌜ now (words .exit) ≡ sets (now (words .entry)) 0 (lineOf (now (line .entry)) .words) ⌝ }
+{
+    if line.len() == 0 {
+        return Line::Other;
+    }
+    let letter = line[0];
+    if letter == 80 {
+        return packet_of(packet_line(line, bytes));
+    }
+    if letter == 66 {
+        return put_line(line, bytes);
+    }
+    if letter == 65 {
+        return samples_line(line, words);
+    }
+    short(letter, &line[1..])
+}

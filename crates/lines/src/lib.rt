@@ -1,0 +1,62 @@
+// The text of the programs' lines: bytes and words read and written, lines cut, read and printed.
+mod asking;
+mod cutting;
+mod printing;
+mod reading;
+pub use asking::packet_line;
+pub use asking::read_line;
+pub use cutting::append;
+pub use cutting::next_line;
+pub use cutting::front;
+pub use cutting::front_words;
+pub use cutting::hold;
+pub use cutting::last;
+pub use cutting::line_end;
+pub use printing::bare_line;
+pub use printing::bytes_line;
+pub use printing::refused_line;
+pub use printing::word_line;
+pub use reading::bytes_in;
+pub use reading::words_in;
+use blocks::Store;
+
+// What a text of items is: so many values, or something else.
+pub enum Items {
+    Good(usize),
+    Bad,
+}
+
+// A line of the console's table. Bytes and words lie in lent memory, so many from its start.
+pub enum Line {
+    Packet(usize),
+    Deadline,
+    Put(Store, usize),
+    Command(u16),
+    Data(u16),
+    Read,
+    Status,
+    Samples(u8, usize),
+    Byte(u8),
+    Timeout,
+    Power,
+    Other,
+}
+
+// Where the next line of a piece starts, and how many characters of it came before the piece: 196607 where they were too many.
+pub struct Cursor {
+    pub from: usize,
+    pub held: usize,
+}
+
+// A line: a part of the piece, as many characters of what is held, or one that is too long; or no end of it yet.
+pub enum Found {
+    Here(usize, usize),
+    Held(usize),
+    Long,
+    More,
+}
+
+pub struct Cut {
+    pub found: Found,
+    pub cursor: Cursor,
+}
