@@ -7,3 +7,4 @@ pub mod Cases
 pub mod Spelled
 pub mod Numerals
 pub mod Laws
+pub mod Forms

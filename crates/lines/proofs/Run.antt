@@ -79,8 +79,8 @@ module _ (t : List ℕ) (i : ℕ) (h : i + 5 ≤ length t) where
   five =
       three t i (omega arith)
       ∙ ap (λ (l : List ℕ). getD t i 0 ∷ getD t (i + 1) 0 ∷ getD t (i + 2) 0 ∷ l)
-          (next t (i + 3) (i + 4) (omega arith) (omega arith)
-            ∙ ap (λ (l : List ℕ). getD t (i + 3) 0 ∷ l) (next t (i + 4) (i + 5) (omega arith) (omega arith)))
+      (next t (i + 3) (i + 4) (omega arith) (omega arith)
+      ∙ ap (λ (l : List ℕ). getD t (i + 3) 0 ∷ l) (next t (i + 4) (i + 5) (omega arith) (omega arith)))
 
   pub word-on : wordAt < 65536 → wordsIn (drop i t) ≡ behind wordAt (wordsIn (drop (i + 5) t))
   unfolding wordsIn

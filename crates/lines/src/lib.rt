@@ -3,22 +3,23 @@ mod asking;
 mod cutting;
 mod printing;
 mod reading;
+
 pub use asking::packet_line;
 pub use asking::read_line;
+use blocks::Store;
 pub use cutting::append;
-pub use cutting::next_line;
 pub use cutting::front;
 pub use cutting::front_words;
 pub use cutting::hold;
 pub use cutting::last;
 pub use cutting::line_end;
+pub use cutting::next_line;
 pub use printing::bare_line;
 pub use printing::bytes_line;
 pub use printing::refused_line;
 pub use printing::word_line;
 pub use reading::bytes_in;
 pub use reading::words_in;
-use blocks::Store;
 
 // What a text of items is: so many values, or something else.
 pub enum Items {

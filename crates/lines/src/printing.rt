@@ -46,7 +46,11 @@ pub fn word_line(out: &mut [u8], at: usize, letter: u8, word: u16) -> usize
     ensures { λ _. ⌜ now (out .exit) ≡ sets (now (out .entry)) at (wordLine letter word) ⌝ }
 {
     let digits = hex::word(word);
-    append(out, at, &[letter, 32, digits[0], digits[1], digits[2], digits[3], 10])
+    append(
+        out,
+        at,
+        &[letter, 32, digits[0], digits[1], digits[2], digits[3], 10],
+    )
 }
 
 // A letter alone.

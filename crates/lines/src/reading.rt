@@ -25,11 +25,7 @@ fn pair(high: u8, low: u8) -> u16
 {
     let h = value(high) as u16;
     let l = value(low) as u16;
-    if (h < 16) & (l < 16) {
-        h * 16 + l
-    } else {
-        256
-    }
+    if (h < 16) & (l < 16) { h * 16 + l } else { 256 }
 }
 
 // A byte's item; 256 where the characters are none.

@@ -63,7 +63,22 @@ pub fn put_frames(out: &mut [u8], at: usize, frames: Frames) -> usize
     let a = frames.three;
     let b = frames.fortyseven;
     let all = [
-        a[0], a[1], a[2], a[3], a[4], a[5], a[6], a[7], b[0], b[1], b[2], b[3], b[4], b[5], b[6], b[7],
+        a[0],
+        a[1],
+        a[2],
+        a[3],
+        a[4],
+        a[5],
+        a[6],
+        a[7],
+        b[0],
+        b[1],
+        b[2],
+        b[3],
+        b[4],
+        b[5],
+        b[6],
+        b[7],
     ];
     lines::bytes_line(out, at, 65, &all)
 }

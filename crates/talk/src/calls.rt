@@ -106,7 +106,15 @@ pub fn console_line(
         ),
         Line::Deadline => ports::deadline(pod, out, at),
         Line::Put(which, n) => {
-            put_block(pod, which, priority, ordinary, lines::front(bytes, n), out, at)
+            put_block(
+                pod,
+                which,
+                priority,
+                ordinary,
+                lines::front(bytes, n),
+                out,
+                at,
+            )
         }
         Line::Command(word) => ports::command_word(pod, word, five, six, seven, out, at),
         Line::Data(word) => ports::data_in(pod, word, five, six, seven, out, at),
@@ -143,10 +151,31 @@ pub fn answer_line(
 {
     match which {
         Port::Packets => session_line(
-            pod, line, bytes, room, priority, ordinary, five, six, seven, out, at,
+            pod,
+            line,
+            bytes,
+            room,
+            priority,
+            ordinary,
+            five,
+            six,
+            seven,
+            out,
+            at,
         ),
         Port::Every => console_line(
-            pod, line, bytes, words, room, priority, ordinary, five, six, seven, out, at,
+            pod,
+            line,
+            bytes,
+            words,
+            room,
+            priority,
+            ordinary,
+            five,
+            six,
+            seven,
+            out,
+            at,
         ),
     }
 }

@@ -1,15 +1,15 @@
 // A line in, a line out: what the programs print for a line, and the loop that reads the lines.
 mod answers;
 mod calls;
-
 mod ports;
 mod turns;
+
 pub use answers::put_answer;
 pub use answers::put_packet;
 pub use calls::console_line;
 pub use calls::session_line;
-pub use turns::run;
 use rules::Pod;
+pub use turns::run;
 
 // The state after a line, and where the output stands.
 pub struct Spoken {

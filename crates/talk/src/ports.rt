@@ -31,10 +31,7 @@ pub fn packet<'a>(
     let next = called.pod;
     let answer = called.answer;
     let to = put_packet(out, at, answer, room);
-    Spoken {
-        pod: next,
-        at: to,
-    }
+    Spoken { pod: next, at: to }
 }
 
 pub fn deadline(pod: Pod, out: &mut [u8], at: usize) -> Spoken
@@ -45,13 +42,17 @@ pub fn deadline(pod: Pod, out: &mut [u8], at: usize) -> Spoken
     let next = called.pod;
     let answer = called.answer;
     let to = put_answer(out, at, 68, answer);
-    Spoken {
-        pod: next,
-        at: to,
-    }
+    Spoken { pod: next, at: to }
 }
 
-pub fn put(pod: Pod, which: Store, store: &mut [u8], block: &[u8], out: &mut [u8], at: usize) -> Spoken
+pub fn put(
+    pod: Pod,
+    which: Store,
+    store: &mut [u8],
+    block: &[u8],
+    out: &mut [u8],
+    at: usize,
+) -> Spoken
     requires { ⌜ at + 784 ≤ length (now out) ⌝ }
     ensures { λ r. ⌜ r .at ≤ at + 784 ⌝ }
 {
@@ -59,10 +60,7 @@ pub fn put(pod: Pod, which: Store, store: &mut [u8], block: &[u8], out: &mut [u8
     let next = called.pod;
     let answer = called.answer;
     let to = put_answer(out, at, 66, answer);
-    Spoken {
-        pod: next,
-        at: to,
-    }
+    Spoken { pod: next, at: to }
 }
 
 pub fn command_word(
@@ -81,10 +79,7 @@ pub fn command_word(
     let next = called.pod;
     let answer = called.answer;
     let to = put_answer(out, at, 67, answer);
-    Spoken {
-        pod: next,
-        at: to,
-    }
+    Spoken { pod: next, at: to }
 }
 
 pub fn data_in(
@@ -103,13 +98,17 @@ pub fn data_in(
     let next = called.pod;
     let answer = called.answer;
     let to = put_answer(out, at, 87, answer);
-    Spoken {
-        pod: next,
-        at: to,
-    }
+    Spoken { pod: next, at: to }
 }
 
-pub fn data_out(pod: Pod, five: &[u16], six: &[u16], seven: &[u16], out: &mut [u8], at: usize) -> Spoken
+pub fn data_out(
+    pod: Pod,
+    five: &[u16],
+    six: &[u16],
+    seven: &[u16],
+    out: &mut [u8],
+    at: usize,
+) -> Spoken
     requires { ⌜ at + 784 ≤ length (now out) ⌝ }
     ensures { λ r. ⌜ r .at ≤ at + 784 ⌝ }
 {
@@ -117,10 +116,7 @@ pub fn data_out(pod: Pod, five: &[u16], six: &[u16], seven: &[u16], out: &mut [u
     let next = called.pod;
     let answer = called.answer;
     let to = put_answer(out, at, 82, answer);
-    Spoken {
-        pod: next,
-        at: to,
-    }
+    Spoken { pod: next, at: to }
 }
 
 pub fn status_word(pod: Pod, out: &mut [u8], at: usize) -> Spoken
@@ -131,10 +127,7 @@ pub fn status_word(pod: Pod, out: &mut [u8], at: usize) -> Spoken
     let next = called.pod;
     let answer = called.answer;
     let to = put_answer(out, at, 83, answer);
-    Spoken {
-        pod: next,
-        at: to,
-    }
+    Spoken { pod: next, at: to }
 }
 
 pub fn samples(pod: Pod, check: u8, set: &[u16], out: &mut [u8], at: usize) -> Spoken
@@ -190,7 +183,13 @@ pub fn pipe_timeout(pod: Pod, out: &mut [u8], at: usize) -> Spoken
 }
 
 // Off and on again.
-pub fn power(five: &mut [u16], six: &mut [u16], seven: &mut [u16], out: &mut [u8], at: usize) -> Spoken
+pub fn power(
+    five: &mut [u16],
+    six: &mut [u16],
+    seven: &mut [u16],
+    out: &mut [u8],
+    at: usize,
+) -> Spoken
     requires { ⌜ at + 784 ≤ length (now out) ⌝ }
     ensures { λ r. ⌜ r .at ≤ at + 784 ⌝ }
 {
@@ -198,8 +197,5 @@ pub fn power(five: &mut [u16], six: &mut [u16], seven: &mut [u16], out: &mut [u8
     let next = called.pod;
     let answer = called.answer;
     let to = put_answer(out, at, 90, answer);
-    Spoken {
-        pod: next,
-        at: to,
-    }
+    Spoken { pod: next, at: to }
 }

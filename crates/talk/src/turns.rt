@@ -74,16 +74,37 @@ fn answer_found(
 {
     match found {
         Found::Here(from, end) => answer_line(
-            which, pod, between(piece, from, end), bytes, words, room, priority, ordinary, five, six, seven, out, at,
+            which,
+            pod,
+            between(piece, from, end),
+            bytes,
+            words,
+            room,
+            priority,
+            ordinary,
+            five,
+            six,
+            seven,
+            out,
+            at,
         ),
         Found::Held(n) => answer_line(
-            which, pod, lines::front(line, n), bytes, words, room, priority, ordinary, five, six, seven, out, at,
+            which,
+            pod,
+            lines::front(line, n),
+            bytes,
+            words,
+            room,
+            priority,
+            ordinary,
+            five,
+            six,
+            seven,
+            out,
+            at,
         ),
         Found::Long => other(pod, out, at),
-        Found::More => Spoken {
-            pod,
-            at,
-        },
+        Found::More => Spoken { pod, at },
     }
 }
 
@@ -109,18 +130,24 @@ fn serve(
     let pod = desk.pod;
     let from = desk.from;
     let held = desk.held;
-    let cut = lines::next_line(
-        piece,
-        line,
-        Cursor {
-            from,
-            held,
-        },
-    );
+    let cut = lines::next_line(piece, line, Cursor { from, held });
     let found = cut.found;
     let cursor = cut.cursor;
     let spoken = answer_found(
-        which, found, pod, piece, line, bytes, words, room, priority, ordinary, five, six, seven, out,
+        which,
+        found,
+        pod,
+        piece,
+        line,
+        bytes,
+        words,
+        room,
+        priority,
+        ordinary,
+        five,
+        six,
+        seven,
+        out,
         desk.at,
     );
     let next = spoken.pod;
@@ -206,7 +233,19 @@ fn turn(
         let part = lines::front(piece, have);
         if from < part.len() {
             return serve(
-                which, desk, part, line, bytes, words, room, priority, ordinary, five, six, seven, out,
+                which,
+                desk,
+                part,
+                line,
+                bytes,
+                words,
+                room,
+                priority,
+                ordinary,
+                five,
+                six,
+                seven,
+                out,
             );
         }
     }
@@ -227,7 +266,19 @@ fn turn(
     let n = io::count(got, piece);
     if n == 0 {
         return finish(
-            which, desk, piece, line, bytes, words, room, priority, ordinary, five, six, seven, out,
+            which,
+            desk,
+            piece,
+            line,
+            bytes,
+            words,
+            room,
+            priority,
+            ordinary,
+            five,
+            six,
+            seven,
+            out,
         );
     }
     Desk {
@@ -255,8 +306,7 @@ pub fn run(
     six: &mut [u16; 128],
     seven: &mut [u16; 64],
     out: &mut [u8; 65536],
-)
-{
+) {
     let called = pod::power_on(five, six, seven);
     let pod = called.pod;
     let mut desk = Desk {
@@ -271,7 +321,19 @@ pub fn run(
     let mut turns = u64::MAX;
     while (turns > 0) & open {
         desk = turn(
-            which, desk, piece, line, bytes, words, room, priority, ordinary, five, six, seven, out,
+            which,
+            desk,
+            piece,
+            line,
+            bytes,
+            words,
+            room,
+            priority,
+            ordinary,
+            five,
+            six,
+            seven,
+            out,
         );
         open = desk.open;
         turns -= 1;

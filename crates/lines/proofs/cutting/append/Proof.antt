@@ -8,7 +8,6 @@ use lib.Seq.{sets}
 use denote.Ref.{now}
 use native.Mathlib.Numerals.{add-one}
 use native.Mathlib.Nat.{add-zero}
-use borrow.Author.Needs.{needs}
 use Rattle.lines.proofs.Lists.{next}
 use Rattle.lines.proofs.cutting.append.Statement.{statement}
 use Rattle.lines.proofs.cutting.append.Tie as tie
@@ -46,13 +45,12 @@ loop-again c =
     let a = c .before .before .before .args in
     let t = now (a .text) in
     let e : a .at + (l .i + 1) ≡ a .at + l .i + 1 = omega arith in
-    let w = set (l .out) (a .at + l .i) (getD t (l .i) 0) in
-    (
+    let w = set (l .out) (a .at + l .i) (getD t (l .i) 0) in (
       omega arith,
       simp length-set (l .inv .1),
       ap (λ (k : ℕ). sets w k (drop (l .i + 1) t)) (e ∙ add-one (a .at + l .i))
-      ∙ ap (sets (l .out) (a .at + l .i)) (sym (next t (l .i) (l .i + 1) (omega arith) refl))
-      ∙ l .inv .2,
+          ∙ ap (sets (l .out) (a .at + l .i)) (sym (next t (l .i) (l .i + 1) (omega arith) refl))
+          ∙ l .inv .2,
     )
 
 add-result : tie.Need-add-result Inv-loop μ-loop
@@ -66,8 +64,7 @@ returns c =
     let l = c .before .loop in
     let a = c .before .before .args in
     let t = now (a .text) in
-    let end : length t ≤ l .i = omega arith in
-    (
+    let end : length t ≤ l .i = omega arith in (
       omega arith,
       ap (sets (l .out) (a .at + l .i)) (sym (drop-of-length-le t {i = l .i} end)) ∙ l .inv .2,
     )

@@ -5,7 +5,6 @@ use mathlib.Core.Path.{_≡_, refl, sym, ap, _∙_}
 use lib.ListN.{length, drop, getD}
 use denote.Ref.{now}
 use borrow.Author.Tests.{ne-eqb}
-use borrow.Author.Needs.{needs}
 use Rattle.lines.specs.Cut.{before}
 use Rattle.lines.proofs.Before.{at-newline, past, none-left}
 use Rattle.lines.proofs.cutting.line_end.Statement.{statement}

@@ -53,14 +53,15 @@ returns-2 c =
     let one = c .before .before .before .before .before .before .before .before .before .before .before .append2 in
     let two = c .before .before .before .before .before .before .before .put-items in
     let three = c .before .before .append3 in
-    let to : three .result ≡ a .at + 3 * length bs + 2 = omega (arith, one .ensures .0, two .ensures .0, three .ensures .0) in
-    (
+    let to : three .result ≡ a .at + 3 * length bs + 2 = omega (arith, one .ensures .0, two .ensures .0, three .ensures .0) in (
       omega (arith, some-length (a .letter) bs some),
-      (rw (some-line (a .letter) bs some)
-      (three-runs (a .letter ∷ []) (spell bs) (10 ∷ []) (now (a .out)) (one .last .0) (two .last .0) (three .last .0)
-      (a .at) (one .result) (two .result) (one .ensures .1) (two .ensures .1) (three .ensures .1)
-      (omega (arith, one .ensures .0)) (omega (arith, two .ensures .0, spell-length bs))),
-      omega arith),
+      (
+        rw (some-line (a .letter) bs some)
+            (three-runs (a .letter ∷ []) (spell bs) (10 ∷ []) (now (a .out)) (one .last .0) (two .last .0) (three .last .0)
+            (a .at) (one .result) (two .result) (one .ensures .1) (two .ensures .1) (three .ensures .1)
+            (omega (arith, one .ensures .0)) (omega (arith, two .ensures .0, spell-length bs))),
+        omega arith,
+      ),
     )
 
 pub bytes-line-spec : {M : Type 1} → statement M

@@ -58,16 +58,15 @@ loop-again c =
     let e = c .before .before .append .ensures in
     let out = c .before .before .append .last .0 in
     let item : List ℕ = 32 ∷ byteDigits b in
-    let stored = e .1 ∙ ap (λ (d : List ℕ). sets (l .out) (l .to) (32 ∷ getD d 0 0 ∷ getD d 1 0 ∷ [])) (c .before .before .before .before .before .byte .ensures) in
-    (
+    let stored = e .1 ∙ ap (λ (d : List ℕ). sets (l .out) (l .to) (32 ∷ getD d 0 0 ∷ getD d 1 0 ∷ [])) (c .before .before .before .before .before .byte .ensures) in (
       omega arith,
       omega (arith, e .0),
       ap length stored ∙ length-sets (l .out) (l .to) item ∙ l .inv .2,
       ap (λ (k : ℕ). sets out k rest) (e .0)
-      ∙ ap (λ (x : List ℕ). sets x (l .to + 3) rest) stored
-      ∙ sets-join item rest (l .out) (l .to) (l .to + 3) refl
-      ∙ ap (sets (l .out) (l .to)) (sym (spell-on bs (l .i) (omega arith)))
-      ∙ l .inv .3,
+          ∙ ap (λ (x : List ℕ). sets x (l .to + 3) rest) stored
+          ∙ sets-join item rest (l .out) (l .to) (l .to + 3) refl
+          ∙ ap (sets (l .out) (l .to)) (sym (spell-on bs (l .i) (omega arith)))
+          ∙ l .inv .3,
     )
 
 same-length : tie.Need-same-length Inv-loop μ-loop
@@ -77,8 +76,7 @@ returns : tie.Need-returns Inv-loop μ-loop
 returns c =
     let l = c .before .loop in
     let a = c .before .before .before .before .args in
-    let bs = now (a .bytes) in
-    (
+    let bs = now (a .bytes) in (
       omega arith,
       ap (sets (l .out) (l .to)) (sym (spell-end bs (l .i) (omega arith))) ∙ l .inv .3,
     )

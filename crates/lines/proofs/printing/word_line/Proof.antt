@@ -38,11 +38,10 @@ returns : tie.Need-returns
 unfolding wordLine
 returns c =
     let a = c .before .before .before .before .before .before .before .args in
-    let e = c .before .before .append .ensures in
-    (
+    let e = c .before .before .append .ensures in (
       e .0,
       e .1
-      ∙ ap (λ (d : List ℕ). sets (now (a .out)) (a .at) (a .letter ∷ 32 ∷ getD d 0 0 ∷ getD d 1 0 ∷ getD d 2 0 ∷ getD d 3 0 ∷ 10 ∷ []))
+          ∙ ap (λ (d : List ℕ). sets (now (a .out)) (a .at) (a .letter ∷ 32 ∷ getD d 0 0 ∷ getD d 1 0 ∷ getD d 2 0 ∷ getD d 3 0 ∷ 10 ∷ []))
           (c .before .before .before .before .before .word .ensures),
     )
 

@@ -76,15 +76,14 @@ loop-again c =
     let t = now (a .text) in
     let v = c .before .byte-item .result in
     let h : l .i + 3 ≤ length t = omega arith in
-    let on : byteItem (getD t (l .i) 0) (getD t (l .i + 1) 0) (getD t (l .i + 2) 0) < 256 = omega (arith, c .before .byte-item .ensures, c .if1 .left) in
-    (
+    let on : byteItem (getD t (l .i) 0) (getD t (l .i + 1) 0) (getD t (l .i + 2) 0) < 256 = omega (arith, c .before .byte-item .ensures, c .if1 .left) in (
       h,
       omega arith,
       simp length-set (l .inv .2),
       ap (λ (x : ℕ). ended (set (l .bytes) (l .n) x) (l .n + 1) (bytesIn (drop (l .i + 3) t))) (c .before .byte-item .ensures)
-      ∙ one-more (l .bytes) (l .n) (byteItem (getD t (l .i) 0) (getD t (l .i + 1) 0) (getD t (l .i + 2) 0)) (bytesIn (drop (l .i + 3) t))
-      ∙ ap (ended (l .bytes) (l .n)) (sym (byte-on t (l .i) h on))
-      ∙ l .inv .3,
+          ∙ one-more (l .bytes) (l .n) (byteItem (getD t (l .i) 0) (getD t (l .i + 1) 0) (getD t (l .i + 2) 0)) (bytesIn (drop (l .i + 3) t))
+          ∙ ap (ended (l .bytes) (l .n)) (sym (byte-on t (l .i) h on))
+          ∙ l .inv .3,
     )
 
 same-length-2 : tie.Need-same-length-2 Inv-loop μ-loop

@@ -91,15 +91,14 @@ loop-again c =
     let t = now (a .text) in
     let v = c .before .word-item .result in
     let h : l .i + 5 ≤ length t = omega arith in
-    let on : wordItem (getD t (l .i) 0) (getD t (l .i + 1) 0) (getD t (l .i + 2) 0) (getD t (l .i + 3) 0) (getD t (l .i + 4) 0) < 65536 = omega (arith, c .before .word-item .ensures, c .if1 .left) in
-    (
+    let on : wordItem (getD t (l .i) 0) (getD t (l .i + 1) 0) (getD t (l .i + 2) 0) (getD t (l .i + 3) 0) (getD t (l .i + 4) 0) < 65536 = omega (arith, c .before .word-item .ensures, c .if1 .left) in (
       h,
       omega arith,
       simp length-set (l .inv .2),
       ap (λ (x : ℕ). ended (set (l .words) (l .n) x) (l .n + 1) (wordsIn (drop (l .i + 5) t))) (c .before .word-item .ensures)
-      ∙ one-more (l .words) (l .n) (wordItem (getD t (l .i) 0) (getD t (l .i + 1) 0) (getD t (l .i + 2) 0) (getD t (l .i + 3) 0) (getD t (l .i + 4) 0)) (wordsIn (drop (l .i + 5) t))
-      ∙ ap (ended (l .words) (l .n)) (sym (word-on t (l .i) h on))
-      ∙ l .inv .3,
+          ∙ one-more (l .words) (l .n) (wordItem (getD t (l .i) 0) (getD t (l .i + 1) 0) (getD t (l .i + 2) 0) (getD t (l .i + 3) 0) (getD t (l .i + 4) 0)) (wordsIn (drop (l .i + 5) t))
+          ∙ ap (ended (l .words) (l .n)) (sym (word-on t (l .i) h on))
+          ∙ l .inv .3,
     )
 
 same-length-2 : tie.Need-same-length-2 Inv-loop μ-loop

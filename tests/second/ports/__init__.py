@@ -1,0 +1,1 @@
+"""The pod's ports, one file each, as document 01 gives them."""
