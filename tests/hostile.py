@@ -7,6 +7,7 @@ the one that starts it.
 
 import io
 import os
+import platform
 import random
 import signal
 import subprocess
@@ -22,8 +23,9 @@ from ports.lines import LONGEST
 from ports.packets import sealed
 
 ROOT = Path(__file__).resolve().parent.parent
-MEMORY = 64 * 1024      # kilobytes
-LIMIT = 60              # seconds until a run counts as hanging
+NATIVE = platform.machine() == "x86_64"   # elsewhere the emulator's memory and time count too
+MEMORY = (64 if NATIVE else 512) * 1024   # kilobytes
+LIMIT = 60 if NATIVE else 300             # seconds until a run counts as hanging
 FORMS = {"session": session_line, "console": console_line}
 PIECE = b" 00" * 20000
 
