@@ -3,12 +3,12 @@
 use mathlib.Core.Path.{_≡_, refl, sym, ap, ap₂, _∙_}
 use mathlib.Core.List.{List, [], _∷_, _++_, append-assoc, append-nil}
 use Prim.Native.Nat.{ℕ, zero, suc, _+_, _*_, _/_, _%_, _^_, _<_, _≤_}
-use native.Mathlib.Nat.{add-comm, zero-add, suc-add}
+use native.Mathlib.Nat.{add-comm, zero-add, suc-add, mul-assoc, add-mul}
 use native.Mathlib.Omega.{arith}
 use lib.Bits.{bitOr, or-shifted, bitXor, xor-shr, xor-mod}
 use lib.ListN.{length, getD, take, drop, take-append-drop}
 use lib.Seq.{drop-cons, drop-drop}
-use lib.Pow.{shl-exact, shr-shr, field, mod-mod-pow, high, low}
+use lib.Pow.{pow-add, shl-exact, shl-lt, shr-shr, field, mod-mod-pow, high, low}
 use Rattle.crc.specs.Crc.{crcFrom}
 use Rattle.crc.specs.Fold.{bytesOf}
 use Rattle.crc.proofs.Register.{byteIn, byteIn-xor, from-none, from-one, from-append}
@@ -29,11 +29,16 @@ cut (suc n) m w =
     let last : w % 256 ≡ w % 2 ^ (suc n * 8) % 256 = rw up (sym (mod-mod-pow w (n * 8) 8)) in
     rw (suc-add, cut n m (w / 256), high-part, low-part, last, append-assoc)
 
--- two numbers set side by side by a shift and `or`
-pub joined : (n m u v : ℕ) → u < 2 ^ (m * 8) → v < 2 ^ (n * 8)
-    → bytesOf (n + m) (bitOr (u * 2 ^ (n * 8) % 2 ^ (m * 8 + n * 8)) v) ≡ bytesOf m u ++ bytesOf n v
-joined n m u v h l =
-    rw (shl-exact (m * 8) (n * 8) (m * 8 + n * 8) h (omega arith), or-shifted u (n * 8) v l, cut n m, high u (n * 8) l, low u (n * 8) l)
+-- a byte set behind a number by a shift of k and `or`, the number being shifted already
+pub beside : (k u b : ℕ) {n : ℕ} → b < 256 → 8 + k ≤ 64 → n ≡ u * 2 ^ (8 + k) → bitOr n (b * 2 ^ k % 2 ^ 64) ≡ (u * 256 + b) * 2 ^ k
+beside k u b h l e =
+    rw (e, shl-exact {a = b} 8 k 64 h l, or-shifted u (8 + k) (b * 2 ^ k) (shl-lt {a = b} 8 k h), pow-add 2 8 k, ← mul-assoc u 256 (2 ^ k))
+    (sym (add-mul (u * 256) b (2 ^ k)))
+
+-- and then the last of its bytes
+pub last-byte : (n u b : ℕ) → b < 256 → bytesOf (suc n) (u * 256 + b) ≡ bytesOf n u ++ (b ∷ [])
+unfolding bytesOf
+last-byte n u b h = rw (high u 8 h, low u 8 h)
 
 -- into the register: the upper bytes first
 pub in-two : (n m c w : ℕ)

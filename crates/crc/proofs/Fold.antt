@@ -60,34 +60,58 @@ fold-lin : Linear fold
 unfolding fold
 fold-lin a b = both-xor 8 0 0 a b
 
-abbrev quotient : ℕ → ℕ
-quotient s = bitXor (bitXor (bitXor (bitXor s (s / 2 ^ 16)) (s / 2 ^ 32)) (s / 2 ^ 44)) (s / 2 ^ 48)
+-- the shifts of a register of n times 16 bits, and as many zero bits more: `two` has n 1, `lift` 4
+abbrev half : ℕ → ℕ → ℕ
+half n s = bitXor s (s / 2 ^ (4 * n))
 
-abbrev rest : ℕ → ℕ
-rest h = bitXor (bitXor h (h * 2 ^ 20 % 2 ^ 64)) (h * 2 ^ 48 % 2 ^ 64)
+abbrev quotient : ℕ → ℕ → ℕ
+quotient n s = bitXor (bitXor (half n s) (half n s / 2 ^ (8 * n))) (s / 2 ^ (11 * n))
 
-quotient-lin : Linear quotient
-quotient-lin =
-    lin-sum (λ s. bitXor (bitXor (bitXor s (s / 2 ^ 16)) (s / 2 ^ 32)) (s / 2 ^ 44)) (λ s. s / 2 ^ 48)
-    (lin-sum (λ s. bitXor (bitXor s (s / 2 ^ 16)) (s / 2 ^ 32)) (λ s. s / 2 ^ 44)
-    (lin-sum (λ s. bitXor s (s / 2 ^ 16)) (λ s. s / 2 ^ 32) (lin-sum (λ s. s) (λ s. s / 2 ^ 16) id-lin (lin-down 16)) (lin-down 32)) (lin-down 44))
-    (lin-down 48)
+abbrev rest : ℕ → ℕ → ℕ
+rest n h = bitXor (bitXor h (h * 2 ^ (5 * n) % 2 ^ (16 * n))) (h * 2 ^ (12 * n) % 2 ^ (16 * n))
 
-rest-lin : Linear rest
-rest-lin =
-    lin-sum (λ h. bitXor h (h * 2 ^ 20 % 2 ^ 64)) (λ h. h * 2 ^ 48 % 2 ^ 64)
-    (lin-sum (λ h. h) (λ h. h * 2 ^ 20 % 2 ^ 64) id-lin (moved-lin 20 64)) (moved-lin 48 64)
+half-lin : (n : ℕ) → Linear (half n)
+half-lin n = lin-sum (λ s. s) (λ s. s / 2 ^ (4 * n)) id-lin (lin-down (4 * n))
 
-zeros-lin : Linear (λ c. crcFrom c (bytesOf 8 0))
-zeros-lin a b = both-xor 8 a b 0 0
+quotient-lin : (n : ℕ) → Linear (quotient n)
+quotient-lin n =
+    lin-sum (λ s. bitXor (half n s) (half n s / 2 ^ (8 * n))) (λ s. s / 2 ^ (11 * n))
+    (lin-sum (half n) (λ s. half n s / 2 ^ (8 * n)) (half-lin n) (lin-then (half n) (λ x. x / 2 ^ (8 * n)) (half-lin n) (lin-down (8 * n))))
+    (lin-down (11 * n))
+
+rest-lin : (n : ℕ) → Linear (rest n)
+rest-lin n =
+    lin-sum (λ h. bitXor h (h * 2 ^ (5 * n) % 2 ^ (16 * n))) (λ h. h * 2 ^ (12 * n) % 2 ^ (16 * n))
+    (lin-sum (λ h. h) (λ h. h * 2 ^ (5 * n) % 2 ^ (16 * n)) id-lin (moved-lin (5 * n) (16 * n))) (moved-lin (12 * n) (16 * n))
+
+raised-lin : (n : ℕ) → Linear (λ s. rest n (quotient n s))
+raised-lin n = lin-then (quotient n) (rest n) (quotient-lin n) (rest-lin n)
+
+zeros-lin : (n : ℕ) → Linear (λ c. crcFrom c (bytesOf n 0))
+zeros-lin n a b = both-xor n a b 0 0
+
+-- two zero bytes more, by the shifts of `two`
+raised : (s : ℕ) → s < 2 ^ 16 → rest 1 (quotient 1 s) ≡ crcFrom s (bytesOf 2 0)
+unfolding bytesOf crcFrom run bits bitIn leaving poly
+raised = basis (λ s. rest 1 (quotient 1 s)) (λ s. crcFrom s (bytesOf 2 0)) (raised-lin 1) (zeros-lin 2) 16 tt
 
 -- eight zero bytes more, by the shifts of `lift`
-pub lifted : (s : ℕ) → s < 2 ^ 64 → fold (rest (quotient s)) ≡ crcFrom (fold s) (bytesOf 8 0)
+pub lifted : (s : ℕ) → s < 2 ^ 64 → fold (rest 4 (quotient 4 s)) ≡ crcFrom (fold s) (bytesOf 8 0)
 unfolding fold bytesOf crcFrom run bits bitIn leaving poly
 lifted =
-    basis (λ s. fold (rest (quotient s))) (λ s. crcFrom (fold s) (bytesOf 8 0))
-    (lin-then (λ s. rest (quotient s)) fold (lin-then quotient rest quotient-lin rest-lin) fold-lin)
-    (lin-then fold (λ c. crcFrom c (bytesOf 8 0)) fold-lin zeros-lin) 64 tt
+    basis (λ s. fold (rest 4 (quotient 4 s))) (λ s. crcFrom (fold s) (bytesOf 8 0))
+    (lin-then (λ s. rest 4 (quotient 4 s)) fold (raised-lin 4) fold-lin)
+    (lin-then fold (λ c. crcFrom c (bytesOf 8 0)) fold-lin (zeros-lin 8)) 64 tt
+
+-- two bytes enter an empty register as they would stand in a full one
+entered : (w : ℕ) → w < 2 ^ 16 → crcFrom 0 (bytesOf 2 w) ≡ crcFrom w (bytesOf 2 0)
+unfolding bytesOf crcFrom run bits bitIn leaving poly
+entered = basis (λ w. crcFrom 0 (bytesOf 2 w)) (λ w. crcFrom w (bytesOf 2 0)) (λ a b. both-xor 2 0 0 a b) (zeros-lin 2) 16 tt
+
+pub two-more : (c w : ℕ) → c < 2 ^ 16 → w < 2 ^ 16 → rest 1 (quotient 1 (bitXor c w)) ≡ crcFrom c (bytesOf 2 w)
+two-more c w h l =
+    raised-lin 1 c w ∙ ap₂ bitXor (raised c h) (raised w l ∙ sym (entered w l)) ∙ sym (both-xor 2 c 0 0 w)
+    ∙ ap (λ (x : ℕ). crcFrom x (bytesOf 2 w)) (xor-zero-r c)
 
 added : (s w : ℕ) → bitXor (crcFrom (fold s) (bytesOf 8 0)) (fold w) ≡ crcFrom (fold s) (bytesOf 8 w)
 unfolding fold

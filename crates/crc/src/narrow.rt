@@ -23,7 +23,10 @@ pub fn one(c: u16, b: u8) -> u16
 fn two(c: u16, w: u16) -> u16
     ensures { λ r. ⌜ r ≡ crcFrom c (bytesOf 2 w) ⌝ }
 {
-    one(one(c, high(w)), (w % 256) as u8)
+    let s = c ^ w;
+    let u = s ^ (s >> 4);
+    let h = u ^ (u >> 8) ^ (s >> 11);
+    h ^ (h << 5) ^ (h << 12)
 }
 
 pub fn four(c: u16, w: u32) -> u16
