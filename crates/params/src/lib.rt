@@ -128,9 +128,10 @@ fn in_span(p: Params) -> bool
 pub fn start() -> Params
     ensures { λ r. ⌜ r ≡ startOf ⌝ }
 {
+    let table = ROWS;
     let mut values = [0i32; 12];
     for i in 0..12usize {
-        let r = row_at(i);
+        let r = table[i];
         let s = r.start;
         values[i] = s;
     }
@@ -187,10 +188,11 @@ pub fn value(p: Params, id: u8) -> Reading
 pub fn missing(p: Params) -> [u8; 8]
     ensures { λ r. ⌜ r ≡ missingOf p ⌝ }
 {
+    let table = ROWS;
     let mut out = [0u8; 8];
     let mut n: usize = 0;
     for i in 0..12usize {
-        let r = row_at(i);
+        let r = table[i];
         let done = p.written[i];
         if r.asked & !done {
             out[n] = (i + 1) as u8;
@@ -204,10 +206,12 @@ pub fn missing(p: Params) -> [u8; 8]
 pub fn sound(p: Params) -> bool
     ensures { λ r. ⌜ r ≡ soundOf p ⌝ }
 {
+    let table = ROWS;
     let mut ok = true;
     for i in 0..12usize {
         let v = p.values[i];
-        ok = ok & in_row(row_at(i), v);
+        let r = table[i];
+        ok = ok & in_row(r, v);
     }
     ok & in_span(p)
 }

@@ -12,7 +12,7 @@ use native.Mathlib.Omega.{arith}
 use native.Mathlib.Nat.{not-suc-le-zero, le-of-suc-le-suc}
 use native.Mathlib.Numerals.{add-one}
 use Rattle.params.specs.declared.Params.{Params}
-use Rattle.params.specs.Rows.{ids}
+use Rattle.params.specs.Rows.{ids, rows, noRow}
 use Rattle.params.specs.Rules.{filter, isMissing, missingIds, missingOf}
 use Rattle.params.proofs.Laws.{missing-few}
 use Rattle.params.proofs.missing.Statement.{statement}
@@ -47,17 +47,20 @@ module _ (p : Params) (i : ℕ) (h : i < 12) where
   left-no e = rw (next, e)
 
 abbrev Inv-loop : tie.InvT-loop
-Inv-loop p out₀ n₀ i₀ out n i = (i ≤ 12) × (n + length (left p i) ≤ 5) × (sets out n (left p i) ≡ missingOf p)
+Inv-loop p table out₀ n₀ i₀ out n i = (table ≡ rows) × (i ≤ 12) × (n + length (left p i) ≤ 5) × (sets out n (left p i) ≡ missingOf p)
 
 abbrev μ-loop : tie.MeasureT-loop
-μ-loop p out₀ n₀ i₀ out n i = 12 - i
+μ-loop p table out₀ n₀ i₀ out n i = 12 - i
 
 loop-holds : tie.Need-loop-holds Inv-loop μ-loop
 unfolding missingOf missingIds left
-loop-holds c = (search needs, omega (arith, missing-few (c .args .t1)), refl)
+loop-holds c = (refl, search needs, omega (arith, missing-few (c .args .t1)), refl)
 
-row-at-requires : tie.Need-row-at-requires Inv-loop μ-loop
-row-at-requires c κs = search needs
+mul-r : tie.Need-mul-r Inv-loop μ-loop
+mul-r c = search needs
+
+array-copy-out-r : tie.Need-array-copy-out-r Inv-loop μ-loop
+array-copy-out-r c = search needs
 
 element-copy-out-done : tie.Need-element-copy-out-done Inv-loop μ-loop
 element-copy-out-done c = search needs
@@ -72,7 +75,7 @@ cast-out c = search needs
 tested : (c : tie.After-struct-known Inv-loop μ-loop) →
     let i = c .before .before .before .before .loop .i in
     let p = c .before .before .before .before .before .args .t1 in
-    isMissing p (i + 1) ≡ c .before .before .row-at .result .asked && not (getD (p .written) i false)
+    isMissing p (i + 1) ≡ getD rows i noRow .asked && not (getD (p .written) i false)
 tested c =
     let i = c .before .before .before .before .loop .i in
     let place : i + 1 - 1 ≡ i = omega arith in
@@ -83,7 +86,7 @@ room : (c : tie.Then1 Inv-loop μ-loop) → c .before .before .before .before .b
 room c =
     let at = c .before .before .before .before .before .loop in
     let p = c .before .before .before .before .before .before .args .t1 in
-    omega (arith, rw (left-yes p (at .i) (search needs) (tested (c .before) ∙ c .if1 .taken)) at (at .inv .1))
+    omega (arith, rw (left-yes p (at .i) (search needs) (tested (c .before) ∙ c .if1 .taken)) at (at .inv .2))
 
 array-write-out : tie.Need-array-write-out Inv-loop μ-loop
 array-write-out c = room c
@@ -104,19 +107,19 @@ loop-again c =
     ⊎-elim
     (λ w.
     let rest = left-yes p (at .i) (search needs) (tested (c .before) ∙ w .0 .taken) in
-    let turn = rw rest at (at .inv .2) in
+    let turn = rw rest at (at .inv .3) in
     let more : c .if1 .n ≡ suc (at .n) = omega arith in
-    (search needs, omega (arith, rw rest at (at .inv .1)), cc))
+    (search needs, search needs, omega (arith, rw rest at (at .inv .2)), cc))
     (λ w.
     let rest = left-no p (at .i) (search needs) (tested (c .before) ∙ w .0 .left) in
-    (search needs, omega (arith, rw rest at (at .inv .1)), cc))
+    (search needs, search needs, omega (arith, rw rest at (at .inv .2)), cc))
     (c .if1 .came)
 
 returns : tie.Need-returns Inv-loop μ-loop
 unfolding left filter
 returns c =
     let last : c .before .loop .i ≡ 12 = omega arith in
-    rw last at (c .before .loop .inv .2)
+    rw last at (c .before .loop .inv .3)
 
 pub missing-spec : {M : Type 1} → statement M
 missing-spec =
@@ -125,7 +128,8 @@ missing-spec =
     Inv-loop
     μ-loop
     loop-holds
-    row-at-requires
+    mul-r
+    array-copy-out-r
     element-copy-out-done
     add-out
     cast-out

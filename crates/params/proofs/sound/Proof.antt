@@ -29,10 +29,10 @@ module _ (ok : Bool) (vs : List ℤ) where
   end h = rw (drop-of-length-le vs h) (and-true ok)
 
 abbrev Inv-loop : tie.InvT-loop
-Inv-loop p ok₀ i₀ ok i = (i ≤ 12) × (ok && inRows (drop i rows) (drop i (p .values)) ≡ inRows rows (p .values))
+Inv-loop p table ok₀ i₀ ok i = (table ≡ rows) × (i ≤ 12) × (ok && inRows (drop i rows) (drop i (p .values)) ≡ inRows rows (p .values))
 
 abbrev μ-loop : tie.MeasureT-loop
-μ-loop p ok₀ i₀ ok i = 12 - i
+μ-loop p table ok₀ i₀ ok i = 12 - i
 
 loop-holds : tie.Need-loop-holds Inv-loop μ-loop
 loop-holds c = search needs
@@ -43,8 +43,11 @@ mul-v c = search needs
 element-copy-out-v : tie.Need-element-copy-out-v Inv-loop μ-loop
 element-copy-out-v c = search needs
 
-row-at-requires : tie.Need-row-at-requires Inv-loop μ-loop
-row-at-requires c κs = search needs
+mul-r : tie.Need-mul-r Inv-loop μ-loop
+mul-r c = search needs
+
+array-copy-out-r : tie.Need-array-copy-out-r Inv-loop μ-loop
+array-copy-out-r c = search needs
 
 in-row-requires : tie.Need-in-row-requires Inv-loop μ-loop
 in-row-requires c κs = search needs
@@ -61,7 +64,7 @@ loop-again c =
     let vs = c .before .before .before .before .before .args .t1 .values in
     let back : toZ w32 (ofZ w32 (getD vs (at .i) (pos 0))) ≡ getD vs (at .i) (pos 0) = search needs in
     let turn = next (at .ok) vs (at .i) (search needs) (search needs) in
-    (search needs, cc)
+    (search needs, search needs, cc)
 
 in-span-requires : tie.Need-in-span-requires Inv-loop μ-loop
 in-span-requires c κs = search needs
@@ -85,7 +88,8 @@ sound-spec =
     loop-holds
     mul-v
     element-copy-out-v
-    row-at-requires
+    mul-r
+    array-copy-out-r
     in-row-requires
     add-i
     loop-less

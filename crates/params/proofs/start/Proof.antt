@@ -23,17 +23,20 @@ unfolding startOf
 next i h = rw (drop-cons (startOf .values) i (pos 0) h, List·getD-map (λ (r : Row). r .start) rows i noRow)
 
 abbrev Inv-loop : tie.InvT-loop
-Inv-loop values₀ i₀ values i = (i ≤ 12) × (sets values i (drop i (startOf .values)) ≡ startOf .values)
+Inv-loop table values₀ i₀ values i = (table ≡ rows) × (i ≤ 12) × (sets values i (drop i (startOf .values)) ≡ startOf .values)
 
 abbrev μ-loop : tie.MeasureT-loop
-μ-loop values₀ i₀ values i = 12 - i
+μ-loop table values₀ i₀ values i = 12 - i
 
 loop-holds : tie.Need-loop-holds Inv-loop μ-loop
 unfolding startOf
 loop-holds c = search needs
 
-row-at-requires : tie.Need-row-at-requires Inv-loop μ-loop
-row-at-requires c κs = search needs
+mul-r : tie.Need-mul-r Inv-loop μ-loop
+mul-r c = search needs
+
+array-copy-out-r : tie.Need-array-copy-out-r Inv-loop μ-loop
+array-copy-out-r c = search needs
 
 mul-values : tie.Need-mul-values Inv-loop μ-loop
 mul-values c = search needs
@@ -50,16 +53,16 @@ loop-less c = search needs
 loop-again : tie.Need-loop-again Inv-loop μ-loop
 loop-again c =
     let at = c .before .before .before .loop in
-    let r = c .before .row-at .result in
+    let r = getD rows (at .i) noRow in
     let back : toZ w32 (ofZ w32 (r .start)) ≡ r .start = search needs in
-    let turn = rw (next (at .i) (search needs)) at (at .inv .1) in
-    (search needs, rw add-one (cc))
+    let turn = rw (next (at .i) (search needs)) at (at .inv .2) in
+    (search needs, search needs, rw add-one (cc))
 
 returns : tie.Need-returns Inv-loop μ-loop
 unfolding startOf
 returns c =
     let end : c .before .loop .i ≡ 12 = omega arith in
-    rw (rw end at (c .before .loop .inv .1))
+    rw (rw end at (c .before .loop .inv .2))
 
 pub start-spec : {M : Type 1} → statement M
 start-spec =
@@ -68,7 +71,8 @@ start-spec =
     Inv-loop
     μ-loop
     loop-holds
-    row-at-requires
+    mul-r
+    array-copy-out-r
     mul-values
     array-set-from-values
     add-i
