@@ -1,11 +1,15 @@
 -- The characters before a newline, from a place on.
 -- Assumes nothing.
-use Prim.Native.Nat.{ℕ, suc, _+_, _≤_, _<_}
-use mathlib.Core.Path.{_≡_, refl}
-use mathlib.Core.List.{List, []}
-use lib.ListN.{length, drop, getD, drop-of-length-le}
+use Prim.Native.Nat.{ℕ, zero, suc, _+_, _≤_, _<_}
+use mathlib.Core.Path.{_≡_, refl, sym, ap, _∙_}
+use mathlib.Core.List.{List, [], _∷_}
+use native.Mathlib.Nat.{suc-add, suc-ne-zero, suc-inj}
+use native.Mathlib.Omega.{arith}
+use lib.Dec.{eqb}
+use lib.ListN.{length, take, drop, getD, drop-of-length-le}
 use borrow.Author.Tests.{ne-eqb}
 use Rattle.lines.specs.Cut.{before}
+use Rattle.lines.proofs.Choice.{split}
 use Rattle.lines.proofs.Lists.{next}
 
 -- at a newline there are none
@@ -22,3 +26,11 @@ past t i h n = rw (next t i (i + 1) h refl, ne-eqb (getD t i 0) 10 n)
 pub none-left : (t : List ℕ) (i : ℕ) → length t ≤ i → before (drop i t) ≡ 0
 unfolding before
 none-left t i h = rw (drop-of-length-le t {i = i} h)
+
+-- over n characters none of which is a newline
+pub over : (n : ℕ) (t : List ℕ) → before (take n t) ≡ n → before t ≡ n + before (drop n t)
+unfolding before
+over zero t e = omega arith
+over (suc n) [] e = absurd (suc-ne-zero n (sym e))
+over (suc n) (c ∷ t) e =
+    split (eqb c 10) (λ y. absurd (suc-ne-zero n (sym (rw y at e)))) (λ y. rw y (ap suc (over n t (suc-inj (rw y at e))) ∙ sym (suc-add n (before (drop n t)))))

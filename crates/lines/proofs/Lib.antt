@@ -6,5 +6,6 @@ pub mod Run
 pub mod Cases
 pub mod Spelled
 pub mod Numerals
+pub mod Pairs
 pub mod Laws
 pub mod Forms

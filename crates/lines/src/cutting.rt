@@ -3,6 +3,7 @@ use crate::Cursor;
 use crate::Cut;
 use crate::Found;
 ghost use mathlib.Core.Path.{_≡_};
+ghost use mathlib.Core.Bool.{true};
 ghost use Prim.Native.Nat.{ℕ, _+_, _≤_};
 ghost use lib.ListN.{length, take, drop};
 ghost use lib.Seq.{sets};
@@ -11,13 +12,41 @@ ghost use Rattle.lines.specs.Cut.{before, heldOf, keptOf, lastOf, cutOf,
 // The longest line: `P` and 65,535 bytes.
 pub const LONGEST: usize = 196606;
 
+// Whether sixteen characters are all at or above the space, and so none of them a newline: one test for the processor.
+fn plain(part: &[u8]) -> bool
+    requires { ⌜ length (now part) ≡ 16 ⌝ }
+    ensures { λ r. ⌜ (r ≡ true → before (now (part .entry)) ≡ 16) ⌝ }
+{
+    let mut all = true;
+    for k in 0..16usize {
+        all = all & (part[k] >= 32);
+    }
+    all
+}
+
+// A place further on with no newline before it, as far as whole parts of sixteen characters are plain.
+fn past_plain(text: &[u8], from: usize) -> usize
+    requires { ⌜ from ≤ length (now text) ⌝ }
+    ensures { λ r. ⌜ r + before (drop r (now (text .entry))) ≡ from + before (drop from (now (text .entry))) ⌝ }
+    ensures { λ r. ⌜ r ≤ length (now (text .entry)) ⌝ }
+{
+    let mut i = from;
+    while text.len() - i >= 16 {
+        if !plain(&text[i..i + 16]) {
+            return i;
+        }
+        i += 16;
+    }
+    i
+}
+
 // Where the line that starts at a place ends: at its newline, or at the end of the text.
 pub fn line_end(text: &[u8], from: usize) -> usize
     requires { ⌜ from ≤ length (now text) ⌝ }
     ensures { λ r. ⌜ r ≡ from + before (drop from (now (text .entry))) ⌝ }
     ensures { λ r. ⌜ r ≤ length (now (text .entry)) ⌝ }
 {
-    let mut i = from;
+    let mut i = past_plain(text, from);
     while i < text.len() {
         if text[i] == 10 {
             return i;

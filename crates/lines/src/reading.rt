@@ -4,28 +4,20 @@ ghost use mathlib.Core.Path.{_≡_};
 ghost use Prim.Native.Nat.{_*_, _≤_};
 ghost use lib.ListN.{length};
 ghost use lib.Seq.{sets};
-ghost use Rattle.lines.specs.Text.{valueOf, pairIn, byteItem, wordItem, bytesIn, wordsIn, itemsOf};
+ghost use Rattle.lines.specs.Text.{pairIn, byteItem, wordItem, bytesIn, wordsIn, itemsOf};
 
-// A digit's value; 16 for any other character.
-fn value(c: u8) -> u8
-    ensures { λ r. ⌜ r ≡ valueOf c ⌝ }
-{
-    if (48 <= c) & (c <= 57) {
-        return c - 48;
-    }
-    if (65 <= c) & (c <= 70) {
-        return c - 55;
-    }
-    16
-}
-
-// Two digits as a byte; 256 where they are not two digits.
+// Two digits as a byte; 256 where they are not two digits. Both are worked out at once, one in each byte of a number: what
+// the values would be, and then whether those are written so.
 fn pair(high: u8, low: u8) -> u16
     ensures { λ r. ⌜ r ≡ pairIn high low ⌝ }
 {
-    let h = value(high) as u16;
-    let l = value(low) as u16;
-    if (h < 16) & (l < 16) { h * 16 + l } else { 256 }
+    let both = (low as u16) * 256 + (high as u16);
+    let values = ((both & 0x0F0F) + ((both / 64) & 0x0303) * 9) & 0x0F0F;
+    let written = values + 0x3030 + (((values + 0x0606) / 16) & 0x0101) * 7;
+    if written != both {
+        return 256;
+    }
+    (values * 16 + values / 256) % 256
 }
 
 // A byte's item; 256 where the characters are none.
