@@ -1,21 +1,9 @@
-// A line in, a line out: what the programs print for a line, and the loop that reads the lines.
-mod answers;
-mod calls;
-mod ports;
+// A line in, a line out: the call that a line asks, and the loop that reads the lines.
+mod asking;
 mod turns;
 
-pub use answers::put_answer;
-pub use answers::put_packet;
-pub use calls::console_line;
-pub use calls::session_line;
-use rules::Pod;
+use lines::Found;
 pub use turns::run;
-
-// The state after a line, and where the output stands.
-pub struct Spoken {
-    pub pod: Pod,
-    pub at: usize,
-}
 
 // Which lines are answered: packets alone, or those of every port.
 pub enum Port {
@@ -23,12 +11,13 @@ pub enum Port {
     Every,
 }
 
-// The state between two lines: the pod, the cursor and the end of the piece, the output's place, and whether to go on.
+// The state between two lines: the cursor and the end of the piece, the output's place, the line found, and how many turns
+// are left, none once the input or the output has ended.
 pub struct Desk {
-    pub pod: Pod,
     pub from: usize,
     pub held: usize,
     pub have: usize,
     pub at: usize,
-    pub open: bool,
+    pub found: Found,
+    pub left: u64,
 }

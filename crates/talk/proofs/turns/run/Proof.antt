@@ -1,42 +1,60 @@
--- Nothing but the bounds has to hold from turn to turn, and the turns are counted down.
+-- Nothing but the bounds has to hold from turn to turn, and the turns left become fewer.
 use native.Mathlib.Omega.{arith}
 use borrow.Author.Needs.{needs}
-use borrow.Author.Tests.{ltb-true}
-use lib.Dec.{ltb}
-use Rattle.lines.proofs.Choice.{and-left}
 use Rattle.talk.specs.Sizes.{Fine}
 use Rattle.talk.proofs.turns.run.Statement.{statement}
 use Rattle.talk.proofs.turns.run.Tie as tie
 
 abbrev Inv-loop : tie.InvT-loop
-Inv-loop which piece₀ line₀ bytes₀ words₀ room₀ priority₀ ordinary₀ five₀ six₀ seven₀ out₀ desk₀ open₀ turns₀ piece line bytes words room priority ordinary five six seven out desk «open» turns = Fine desk
+Inv-loop which piece₀ line₀ bytes₀ words₀ room₀ priority₀ ordinary₀ five₀ six₀ seven₀ out₀ pod₀ desk₀ piece line bytes words room priority ordinary five six seven out pod desk =
+    Fine desk
 
 abbrev μ-loop : tie.MeasureT-loop
-μ-loop which piece₀ line₀ bytes₀ words₀ room₀ priority₀ ordinary₀ five₀ six₀ seven₀ out₀ desk₀ open₀ turns₀ piece line bytes words room priority ordinary five six seven out desk «open» turns = turns
+μ-loop which piece₀ line₀ bytes₀ words₀ room₀ priority₀ ordinary₀ five₀ six₀ seven₀ out₀ pod₀ desk₀ piece line bytes words room priority ordinary five six seven out pod desk =
+    desk .left
 
-power-on-requires : tie.Need-power-on-requires Inv-loop μ-loop
-power-on-requires c κs = search needs
+fresh-requires : tie.Need-fresh-requires Inv-loop μ-loop
+fresh-requires c κs = search needs
+
+empty-requires : tie.Need-empty-requires Inv-loop μ-loop
+empty-requires c κs = search needs
 
 loop-holds : tie.Need-loop-holds Inv-loop μ-loop
-loop-holds c = record { start = omega arith; piece = omega arith; longest = omega arith; gathered = omega arith }
+loop-holds c = c .empty .ensures .fine
 
 turn-requires : tie.Need-turn-requires Inv-loop μ-loop
-turn-requires c κs = c .before .before .before .before .before .before .before .before .before .before .before .before .loop .inv
+turn-requires c κs = (c .before .before .before .before .before .loop .inv, c .before .before .before .if1 .taken)
 
--- a turn is left
-left : tie.Need-sub-turns Inv-loop μ-loop
-left c =
-    let l = c .before .before .before .before .before .before .before .before .before .before .before .before .before .loop in
-    ltb-true 0 (l .turns) (and-left (ltb 0 (l .turns)) (l .«open») (c .before .before .before .before .before .before .before .before .before .before .before .before .loop-test .taken))
-
-sub-turns : tie.Need-sub-turns Inv-loop μ-loop
-sub-turns c = left c
+enum-told : tie.Need-enum-told Inv-loop μ-loop
+enum-told c = search needs
 
 loop-less : tie.Need-loop-less Inv-loop μ-loop
-loop-less c = let h = left c in omega arith
+loop-less c = c .before .before .turn .ensures .less
 
 loop-again : tie.Need-loop-again Inv-loop μ-loop
-loop-again c = c .turn .ensures
+loop-again c = c .before .before .turn .ensures .fine
+
+asked-requires : tie.Need-asked-requires Inv-loop μ-loop
+asked-requires c κs = search needs
+
+answer-requires : tie.Need-answer-requires Inv-loop μ-loop
+answer-requires c κs = c .before .before .before .before .before .before .before .before .before .before .before .before .before .before .before .turn .ensures .room
+
+loop-less-2 : tie.Need-loop-less-2 Inv-loop μ-loop
+loop-less-2 c = c .before .before .before .before .before .before .before .before .before .before .before .before .before .before .before .before .before .turn .ensures .less
+
+loop-again-2 : tie.Need-loop-again-2 Inv-loop μ-loop
+loop-again-2 c =
+    let ready = c .before .before .before .before .before .before .before .before .before .before .before .before .before .before .before .before .before .turn .ensures in
+    record {
+      start = ready .fine .start;
+      piece = ready .fine .piece;
+      longest = ready .fine .longest;
+      gathered = omega (arith, ready .room, c .before .answer .ensures);
+    }
+
+flush-requires : tie.Need-flush-requires Inv-loop μ-loop
+flush-requires c κs = search needs
 
 returns : tie.Need-returns Inv-loop μ-loop
 returns c = tt
@@ -47,10 +65,16 @@ run-spec =
     (tie.spec
     Inv-loop
     μ-loop
-    power-on-requires
+    fresh-requires
+    empty-requires
     loop-holds
     turn-requires
-    sub-turns
+    enum-told
     loop-less
     loop-again
+    asked-requires
+    answer-requires
+    loop-less-2
+    loop-again-2
+    flush-requires
     returns)

@@ -1,8 +1,14 @@
 -- Sixteen bytes are 50 characters.
 use native.Mathlib.Omega.{arith}
+use denote.Ref.{now}
+use mathlib.Core.Path.{_≡_, ap₂}
+use mathlib.Core.List.{_++_}
+use lib.ListN.{length}
+use Rattle.answers.specs.Answers.{framesText}
+use Rattle.answers.proofs.Texts.{bytes-written, eight}
 use borrow.Author.Needs.{needs}
-use Rattle.talk.proofs.answers.put_frames.Statement.{statement}
-use Rattle.talk.proofs.answers.put_frames.Tie as tie
+use Rattle.answers.proofs.put_frames.Statement.{statement}
+use Rattle.answers.proofs.put_frames.Tie as tie
 
 array-read-t9 : tie.Need-array-read-t9
 array-read-t9 c = search needs
@@ -62,7 +68,15 @@ same-length : tie.Need-same-length
 same-length c = search needs
 
 returns : tie.Need-returns
-returns c = omega (arith, c .before .before .bytes-line .ensures .1 .1)
+unfolding framesText
+returns c =
+    let a = c .before .before .before .before .before .before .before .before .args in
+    let r = c .before .before .bytes-line in
+    let x : length (a .frames .three) ≡ 8 = search needs in
+    let y : length (a .frames .fortyseven) ≡ 8 = search needs in
+    bytes-written 65 52 (a .at) (r .result) (now (a .out)) (r .last .0) _ (a .frames .three ++ a .frames .fortyseven)
+    (ap₂ _++_ (eight (a .frames .three) x) (eight (a .frames .fortyseven) y))
+    (r .ensures .0) (r .ensures .1 .0) (omega (arith, r .ensures .1 .1))
 
 pub put-frames-spec : {M : Type 1} → statement M
 put-frames-spec =

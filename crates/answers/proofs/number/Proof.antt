@@ -2,8 +2,8 @@
 use native.Mathlib.Omega.{arith}
 use Rattle.rules.specs.Refusals.{numberOf}
 use borrow.Author.Needs.{needs}
-use Rattle.talk.proofs.answers.number.Statement.{statement}
-use Rattle.talk.proofs.answers.number.Tie as tie
+use Rattle.answers.proofs.number.Statement.{statement}
+use Rattle.answers.proofs.number.Tie as tie
 
 enum-told : tie.Need-enum-told
 enum-told c = search needs

@@ -1,8 +1,8 @@
 -- What is asked for lies in the piece, or nothing is promised.
 use native.Mathlib.Omega.{arith}
 use borrow.Author.Needs.{needs}
-use Rattle.talk.proofs.turns.between.Statement.{statement}
-use Rattle.talk.proofs.turns.between.Tie as tie
+use Rattle.talk.proofs.asking.between.Statement.{statement}
+use Rattle.talk.proofs.asking.between.Tie as tie
 
 returns : tie.Need-returns
 returns c = (λ h k. absurd (omega arith), omega arith)

@@ -3,10 +3,10 @@ use native.Mathlib.Omega.{arith}
 use denote.Ref.{now}
 use lib.ListN.{take}
 use Rattle.rules.specs.declared.Answer.the-variants.{Refused, Done, Word}
-use Rattle.talk.proofs.Texts.{packet-length, packet-other, refused-same, done-same, word-same}
+use Rattle.answers.proofs.Texts.{packet-length, packet-other, refused-same, done-same, word-same}
 use borrow.Author.Needs.{needs}
-use Rattle.talk.proofs.answers.put_packet.Statement.{statement}
-use Rattle.talk.proofs.answers.put_packet.Tie as tie
+use Rattle.answers.proofs.put_packet.Statement.{statement}
+use Rattle.answers.proofs.put_packet.Tie as tie
 
 enum-known-answer : tie.Need-enum-known-answer
 enum-known-answer c = search needs

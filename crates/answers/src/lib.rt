@@ -8,7 +8,7 @@ ghost use Prim.Native.Nat.{_+_, _≤_, _<_};
 ghost use lib.ListN.{length};
 ghost use lib.Seq.{sets};
 ghost use Rattle.rules.specs.Refusals.{numberOf, saidOf};
-ghost use Rattle.talk.specs.Answers.{saidText, packetText};
+ghost use Rattle.answers.specs.Answers.{saidText, packetText, framesText, sentText};
 
 fn number(refusal: Refusal) -> u8
     ensures { λ r. ⌜ r ≡ numberOf refusal ⌝ }
@@ -57,8 +57,10 @@ pub fn put_packet(out: &mut [u8], at: usize, answer: Answer, room: &[u8]) -> usi
 
 // The two frames, AN03 and then AN47.
 pub fn put_frames(out: &mut [u8], at: usize, frames: Frames) -> usize
-    requires { ⌜ at + 784 ≤ length (now out) ⌝ }
-    ensures { λ r. ⌜ r ≤ at + 784 ⌝ }
+    requires { ⌜ at + 52 ≤ length (now out) ⌝ }
+    ensures { λ r. ⌜ r ≡ at + length (framesText frames) ⌝ }
+    ensures { λ _. ⌜ now (out .exit) ≡ sets (now (out .entry)) at (framesText frames) ⌝ }
+    ensures { λ r. ⌜ r ≤ at + 52 ⌝ }
 {
     let a = frames.three;
     let b = frames.fortyseven;
@@ -85,8 +87,10 @@ pub fn put_frames(out: &mut [u8], at: usize, frames: Frames) -> usize
 
 // What the pipe sends.
 pub fn put_sent(out: &mut [u8], at: usize, letter: u8, sent: Sent) -> usize
-    requires { ⌜ at + 784 ≤ length (now out) ⌝ }
-    ensures { λ r. ⌜ r ≤ at + 784 ⌝ }
+    requires { ⌜ at + 28 ≤ length (now out) ⌝ }
+    ensures { λ r. ⌜ r ≡ at + length (sentText letter sent) ⌝ }
+    ensures { λ _. ⌜ now (out .exit) ≡ sets (now (out .entry)) at (sentText letter sent) ⌝ }
+    ensures { λ r. ⌜ r ≤ at + 28 ⌝ }
 {
     let bytes = sent.bytes;
     let count = sent.count;

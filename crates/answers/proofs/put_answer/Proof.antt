@@ -1,9 +1,9 @@
 -- By the answer.
 use denote.Ref.{now}
-use Rattle.talk.proofs.Texts.{said-refused, said-bare, said-length, said-word}
+use Rattle.answers.proofs.Texts.{said-refused, said-bare, said-length, said-word}
 use borrow.Author.Needs.{needs}
-use Rattle.talk.proofs.answers.put_answer.Statement.{statement}
-use Rattle.talk.proofs.answers.put_answer.Tie as tie
+use Rattle.answers.proofs.put_answer.Statement.{statement}
+use Rattle.answers.proofs.put_answer.Tie as tie
 
 enum-known-answer : tie.Need-enum-known-answer
 enum-known-answer c = search needs
