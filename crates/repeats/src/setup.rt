@@ -30,12 +30,12 @@ pub fn fill(bytes: &mut [u8]) {
 
 pub fn print(letter: u8, answer: Answer) {
     let mut out = [0u8; 8];
-    let n = talk::put_answer(&mut out, 0, letter, answer);
+    let n = answers::put_answer(&mut out, 0, letter, answer);
     io::write_all(STDOUT_FILENO, lines::front(&out, n));
 }
 
 pub fn print_packet(answer: Answer, room: &[u8; 260]) {
     let mut out = [0u8; 784];
-    let n = talk::put_packet(&mut out, 0, answer, room);
+    let n = answers::put_packet(&mut out, 0, answer, room);
     io::write_all(STDOUT_FILENO, lines::front(&out, n));
 }
