@@ -1,10 +1,10 @@
 -- Lines cut from what is read in pieces.
 -- Assumes nothing.
-use mathlib.Core.Bool.{_&&_, cond}
+use mathlib.Core.Bool.{Bool, not, _&&_, cond}
 use mathlib.Core.List.{List, [], _∷_}
-use Prim.Native.Nat.{ℕ, suc, _+_, _-_, _≤_}
+use Prim.Native.Nat.{ℕ, zero, suc, _+_, _-_, _≤_}
 use lib.Dec.{ltb, leb, eqb}
-use lib.ListN.{length, take, drop}
+use lib.ListN.{length, take, drop, getD}
 use lib.Seq.{sets}
 use Rattle.lines.specs.declared.Cursor.{Cursor}
 use Rattle.lines.specs.declared.Cut.{Cut}
@@ -15,6 +15,11 @@ use Rattle.lines.specs.declared.Found.the-variants.{Here, Held, Long, Mo
 unfoldable pub before : List ℕ → ℕ
 before [] = 0
 before (c ∷ cs) = cond (eqb c 10) 0 (suc (before cs))
+
+-- no newline at a place, nor at the n places behind it
+abbrev pub clearTo : ℕ → List ℕ → ℕ → Bool
+clearTo zero t i = not (eqb (getD t i 0) 10)
+clearTo (suc n) t i = clearTo n t i && not (eqb (getD t (i + suc n) 0) 10)
 
 -- "A packet may have up to 65,535 bytes": `P` and three characters for each
 abbrev pub longest : ℕ

@@ -6,10 +6,41 @@ ghost use mathlib.Core.Path.{_≡_};
 ghost use Prim.Native.Nat.{ℕ, _+_, _≤_};
 ghost use lib.ListN.{length, take, drop};
 ghost use lib.Seq.{sets};
-ghost use Rattle.lines.specs.Cut.{before, heldOf, keptOf, lastOf, cutOf, heldLine, foundIn};
+ghost use Rattle.lines.specs.Cut.{before, clearTo, heldOf, keptOf, lastOf, cutOf, heldLine, foundIn};
 
 // The longest line: `P` and 65,535 bytes.
 pub const LONGEST: usize = 196606;
+
+// Whether none of the eight characters from a place on is a newline.
+fn clear(text: &[u8], i: usize) -> bool
+    requires { ⌜ i + 8 ≤ length (now text) ⌝ }
+    ensures { λ r. ⌜ r ≡ clearTo 7 (now (text .entry)) i ⌝ }
+{
+    (text[i] != 10)
+        & (text[i + 1] != 10)
+        & (text[i + 2] != 10)
+        & (text[i + 3] != 10)
+        & (text[i + 4] != 10)
+        & (text[i + 5] != 10)
+        & (text[i + 6] != 10)
+        & (text[i + 7] != 10)
+}
+
+// Past whole eights without a newline: eight characters cost the processor little more than one.
+fn past_eights(text: &[u8], from: usize) -> usize
+    requires { ⌜ from ≤ length (now text) ⌝ }
+    ensures { λ r. ⌜ r + before (drop r (now (text .entry))) ≡ from + before (drop from (now (text .entry))) ⌝ }
+    ensures { λ r. ⌜ r ≤ length (now (text .entry)) ⌝ }
+{
+    let mut i = from;
+    while text.len() - i >= 8 {
+        if !clear(text, i) {
+            return i;
+        }
+        i += 8;
+    }
+    i
+}
 
 // Where the line that starts at a place ends: at its newline, or at the end of the text.
 pub fn line_end(text: &[u8], from: usize) -> usize
@@ -17,7 +48,7 @@ pub fn line_end(text: &[u8], from: usize) -> usize
     ensures { λ r. ⌜ r ≡ from + before (drop from (now (text .entry))) ⌝ }
     ensures { λ r. ⌜ r ≤ length (now (text .entry)) ⌝ }
 {
-    let mut i = from;
+    let mut i = past_eights(text, from);
     while i < text.len() {
         if text[i] == 10 {
             return i;

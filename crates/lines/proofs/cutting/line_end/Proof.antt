@@ -1,10 +1,10 @@
 -- No newline stands between the line's start and the place reached.
-use Prim.Native.Nat.{ℕ, _≤_, _-_, _+_}
+use Prim.Native.Nat.{_≤_, _-_, _+_}
 use native.Mathlib.Omega.{arith}
-use mathlib.Core.Path.{_≡_, refl, sym, ap, _∙_}
-use lib.ListN.{length, drop, getD}
+use mathlib.Core.Path.{_≡_, refl}
+use lib.ListN.{length, drop}
 use denote.Ref.{now}
-use borrow.Author.Tests.{ne-eqb}
+use borrow.Author.Needs.{needs}
 use Rattle.lines.specs.Cut.{before}
 use Rattle.lines.proofs.Before.{at-newline, past, none-left}
 use Rattle.lines.proofs.cutting.line_end.Statement.{statement}
@@ -16,8 +16,11 @@ Inv-loop text from i₀ i = (i ≤ length text) × (i + before (drop i text) ≡
 abbrev μ-loop : tie.MeasureT-loop
 μ-loop text from i₀ i = length text - i
 
+past-eights-requires : tie.Need-past-eights-requires Inv-loop μ-loop
+past-eights-requires c κs = search needs
+
 loop-holds : tie.Need-loop-holds Inv-loop μ-loop
-loop-holds c = (c .pre, refl)
+loop-holds c = let e = c .past-eights .ensures in (e .1, e .0)
 
 shared-slice-read-if1 : tie.Need-shared-slice-read-if1 Inv-loop μ-loop
 shared-slice-read-if1 c = omega arith
@@ -25,7 +28,7 @@ shared-slice-read-if1 c = omega arith
 returns : tie.Need-returns Inv-loop μ-loop
 returns c =
     let l = c .before .before .before .loop in
-    let t = now (c .before .before .before .before .args .text) in
+    let t = now (c .before .before .before .before .before .before .args .text) in
     (omega (arith, at-newline t (l .i) (omega arith) (c .if1 .taken), l .inv .1), omega arith)
 
 add-i : tie.Need-add-i Inv-loop μ-loop
@@ -37,13 +40,13 @@ loop-less c = omega arith
 loop-again : tie.Need-loop-again Inv-loop μ-loop
 loop-again c =
     let l = c .before .before .before .loop in
-    let t = now (c .before .before .before .before .args .text) in
-    (omega arith, omega (arith, past t (l .i) (omega arith) (c .if1 .left), l .inv .1))
+    let t = now (c .before .before .before .before .before .before .args .text) in
+    (omega arith, omega (arith, past t (l .i) (l .i + 1) refl (omega arith) (c .if1 .left), l .inv .1))
 
 returns-2 : tie.Need-returns-2 Inv-loop μ-loop
 returns-2 c =
     let l = c .before .loop in
-    let t = now (c .before .before .args .text) in
+    let t = now (c .before .before .before .before .args .text) in
     (omega (arith, none-left t (l .i) (omega arith), l .inv .1), omega arith)
 
 pub line-end-spec : {M : Type 1} → statement M
@@ -52,6 +55,7 @@ line-end-spec =
     (tie.spec
     Inv-loop
     μ-loop
+    past-eights-requires
     loop-holds
     shared-slice-read-if1
     returns
