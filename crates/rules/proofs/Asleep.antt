@@ -16,7 +16,7 @@ use Rattle.rules.specs.declared.Pod.{Pod}
 use Rattle.rules.specs.State.{isClosed, isIdle, freshPod, restful, soundPod}
 use Rattle.rules.specs.Refusals.{lowest, tablesSized}
 use Rattle.rules.specs.Calls.{powerCall}
-use Rattle.rules.specs.World.{World, power, step}
+use Rattle.rules.specs.World.{World, step}
 use Rattle.rules.specs.Pairs.{Near, Asleep}
 use Rattle.rules.specs.Demands.{AnswerAlike, AsleepFromPower, AsleepFromShutdown}
 use Rattle.rules.proofs.Pick.{split, and-left, and-right, and-both}

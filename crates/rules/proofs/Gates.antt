@@ -2,19 +2,19 @@
 -- Assumes nothing.
 use Prim.Native.Nat.{ℕ, _*_, _<_, _≤_}
 use native.Mathlib.Omega.{arith}
-use mathlib.Core.Path.{_≡_, refl, sym, ap, _∙_}
-use mathlib.Core.Bool.{Bool, true, false, not, cond, _&&_}
+use mathlib.Core.Path.{_≡_}
+use mathlib.Core.Bool.{true, false, _&&_}
 use mathlib.Core.List.{List, [], _∷_}
 use lib.ListN.{length}
-use lib.Dec.{ltb, leb, eqb}
-use borrow.Author.Tests.{ltb-false, leb-false, eqb-true, eqb-false, eq-eqb, not-false}
+use lib.Dec.{eqb}
+use borrow.Author.Tests.{ltb-false, leb-false, eqb-true, eq-eqb, not-false}
 use Rattle.blocks.specs.declared.Store.{Store}
 use Rattle.blocks.specs.declared.Store.the-variants.{Priority, Ordinary}
 use Rattle.blocks.specs.Stores.{capacityOf}
 use Rattle.tables.specs.Tables.{Three}
 use Rattle.rules.specs.declared.Pod.{Pod}
 use Rattle.rules.specs.State.{ringOf, soundPod}
-use Rattle.rules.specs.Refusals.{Row, row, lowest, storeSized, tablesSized, roomRow, allRow, stateRow, blockRow, asleepRow, fullRow}
+use Rattle.rules.specs.Refusals.{Row, lowest, storeSized, tablesSized, roomRow, allRow, stateRow, blockRow, asleepRow, fullRow}
 use Rattle.rules.proofs.Pick.{split, and-left, and-right}
 
 -- where no row holds, the first does not, and none of the others

@@ -33,7 +33,7 @@ use Rattle.rules.specs.Refusals.{done, bytes, lowest, storeSized, tables
 use Rattle.rules.specs.Calls.{Outcome, Powered, powerCall, Heard, heardOf, answeredWith, answeredBy, Packeted, packetCall, deadlineCall, Put, putCall, Worded, commandCall, dataInCall, dataOutCall, statusCall, samplesCall, Piping, passed as passing, byteCall, timeoutCall}
 use Rattle.rules.specs.World.{World, Call, power, packet, deadline, put, command, dataIn, dataOut, status, samples, byte, timeout, told, stepped, withPod, withTables, withStore, storeIn, byOutcome, byWorded, byPacketed, byPut, byPiping, byPowered, step}
 use Rattle.rules.specs.Replies.{fieldsBy, awakeBy, markBy}
-use Rattle.rules.specs.History.{succeeded, exchangeAfter, sameStore, asksInitialise, begins, blocksBy, shortBy, valueBy}
+use Rattle.rules.specs.History.{succeeded, exchangeAfter, sameStore, asksFor, begins, blocksBy, shortBy, valueBy}
 use Rattle.rules.proofs.Pick.{by-test, split}
 use Rattle.rules.proofs.Gates.{passed, size, packet-fits, PutFits, put-fits}
 use Rattle.rules.proofs.Spoken.{spokenFine, spoken-fine}
@@ -159,10 +159,10 @@ module _ (w : World) (g : Good (w .pod)) where
       }
     where
       counted : (n : ℕ) → w .pod .pipe .timeouts ≡ min n 15
-          → h .pod .pipe .timeouts ≡ min (cond (asksInitialise (readOf b) && spokenFine (h .spoken)) 0 (n + 0)) 15
+          → h .pod .pipe .timeouts ≡ min (cond (asksFor 0x90 (readOf b) && spokenFine (h .spoken)) 0 (n + 0)) 15
       counted n e =
           f .timeouts
-          ∙ split (asksInitialise (readOf b) && spokenFine (h .spoken)) (λ y. rw y) (λ y. rw y (omega arith))
+          ∙ split (asksFor 0x90 (readOf b) && spokenFine (h .spoken)) (λ y. rw y) (λ y. rw y (omega arith))
 
   timeout-law : Lawful w timeout (byPiping (passing (timeoutOf (w .pod .pipe)) (w .pod)) w)
   unfolding exchangeAfter begins blocksBy shortBy valueBy fieldsBy awakeBy markBy emptyInput countUp

@@ -13,7 +13,6 @@ pub mod Sound
 pub mod Damage
 pub mod Written
 pub mod Restarts
-pub mod Loads
 pub mod Spoken
 pub mod Values
 pub mod Fares
@@ -29,4 +28,8 @@ pub mod Examples
 pub mod NotEmpty
 pub mod Checked
 pub mod TablesOnly
+pub mod Holding
+pub mod Between
+pub mod Gathering
+pub mod Loads
 pub mod Shows

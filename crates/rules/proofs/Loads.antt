@@ -1,12 +1,13 @@
 -- Demand 2: "A table load counts when its last word is in and every check passes, and then changes the addressed words and no other."
 -- Assumes nothing.
-use Prim.Native.Nat.{ℕ, _<_, _≤_}
+use Prim.Native.Nat.{ℕ, _+_, _<_, _≤_}
+use native.Mathlib.Nat.{zero-add}
 use native.Mathlib.Omega.{arith}
-use mathlib.Core.Path.{_≡_, refl, sym, ap, _∙_}
-use mathlib.Core.Bool.{Bool, true, false, not, _||_, cond, false≢true}
-use mathlib.Core.List.{List, map}
+use mathlib.Core.Path.{_≡_, refl, sym, ap, ap₂, _∙_}
+use mathlib.Core.Bool.{Bool, true, false, not, _||_, cond}
+use mathlib.Core.List.{List, [], _∷_, _++_, map, map-append}
 use borrow.Author.Tests.{eq-eqb}
-use lib.ListN.{length, getD, drop, length-drop}
+use lib.ListN.{length, getD, drop, length-append, length-drop}
 use lib.Seq.{sets, take-all}
 use Rattle.tables.specs.declared.Table.{Table}
 use Rattle.tables.specs.declared.Transfer.the-variants.{Idle, Load}
@@ -17,27 +18,24 @@ use Rattle.tables.specs.Command.{heardOf as orderHeard}
 use Rattle.tables.specs.Port.{Tabled, tabled, withTransfer, isOpen, closeOf, dataCount, obeyOf, tablesAfter, commandOf, rightOf, storedIn, writtenOf}
 use Rattle.tables.proofs.Kept.{command-sound, command-load}
 use Rattle.tables.proofs.Limits.{sound-transfer, LoadIn, load-in}
-use Rattle.tables.proofs.Gathering.{part-keeps, load-taken, load-refused}
+use Rattle.tables.proofs.Gathering.{part-gathers, load-taken, load-refused}
 use Rattle.rules.specs.declared.Pod.{Pod}
-use Rattle.rules.specs.State.{withWords, isClosed, restful, soundPod}
+use Rattle.rules.specs.State.{soundPod}
 use Rattle.rules.specs.Calls.{commandCall}
 use Rattle.rules.specs.World.{World, Call, command as word, dataIn, withPod, step, final}
-use Rattle.rules.specs.Demands.{Fit, LoadWhole, LoadCut}
-use Rattle.rules.proofs.Pick.{split, and-false, or-true}
-use Rattle.rules.proofs.Bounds.{PodIn, in-pod, pod-in}
-use Rattle.rules.proofs.Written.{portOf, laid, Ready, words-clear, on-words, final-written, written-ready}
+use Rattle.rules.specs.Loads.{Fit, wordsIn, othersIn, opened, loaded}
+use Rattle.rules.specs.Demands.{LoadWhole, LoadCut}
+use Rattle.rules.proofs.Pick.{split, or-true}
+use Rattle.rules.proofs.Bounds.{in-pod, pod-in}
+use Rattle.rules.proofs.Written.{portOf, laid, Ready, words-clear, on-words, final-written}
 use Rattle.rules.proofs.Restarts.{same-tables}
+use Rattle.rules.proofs.Holding.{holding}
+use Rattle.rules.proofs.Gathering.{open-on, along, between}
+use Rattle.rules.proofs.Between.{loads, sound-hold}
 
 or-false : (a : Bool) → (a || false) ≡ a
 or-false true = refl
 or-false false = refl
-
--- a pod within its bounds with a transfer open is initialised
-open-on : (p : Pod) → PodIn p → isOpen (p .words .transfer) ≡ true → p .initialised ≡ true
-unfolding restful
-open-on p h o =
-    split (p .initialised) (λ e. e)
-    (λ e. absurd (false≢true (sym (and-false (isClosed (p .exchange))) ∙ rw (e, o) at (h .rest))))
 
 module _ (w : World) (t : Table) (n : ℕ) (xs : List ℕ) (h : Fit w) (opened : w .pod .words .transfer ≡ Load t n 0) where
   -- an open load finds all in order
@@ -79,13 +77,13 @@ module _ (w : World) (t : Table) (n : ℕ) (xs : List ℕ) (h : Fit w) (opened :
   -- cut short, it has changed the words of the state alone
   module _ (part : length xs < n) where
     abbrev cut : Pod
-    cut = withWords (writtenOf xs (portOf w) .words) (w .pod)
+    cut = holding (Load t n (length xs)) (sets (w .pod .words .load) 0 xs) (w .pod)
 
     part-world : final w (map dataIn xs) ≡ withPod cut w
-    part-world = words-written ∙ ap (λ (s : Three). laid (tabled (writtenOf xs (portOf w) .words) s) w) (part-keeps t n (portOf w) opened xs part)
+    part-world = words-written ∙ ap (λ (d : Tabled). laid d w) (part-gathers t n (portOf w) opened xs part)
 
     cut-sound : soundPod cut ≡ true
-    cut-sound = in-pod (written-ready xs w load-ready .pod)
+    cut-sound = sound-hold w (Load t n (length xs)) (sets (w .pod .words .load) 0 xs) (rw opened (loads t n (length xs) 0 part (omega arith))) ∙ h .sound
 
     cut-load : (c : Call) → (final w (map dataIn xs) .tables ≡ w .tables)
         × (((x : ℕ) → c ≡ dataIn x → ⊥) → step (final w (map dataIn xs)) c .world .tables ≡ step w c .world .tables)
@@ -93,6 +91,12 @@ module _ (w : World) (t : Table) (n : ℕ) (xs : List ℕ) (h : Fit w) (opened :
       ap (λ (v : World). v .tables) part-world,
       λ other. ap (λ (v : World). step v c .world .tables) part-world ∙ same-tables w cut (h .sound) cut-sound refl c other,
     )
+
+-- the world after some calls and then some more
+final-then : (w : World) (bs cs : List Call) → final w (bs ++ cs) ≡ final (final w bs) cs
+unfolding final
+final-then w [] cs = refl
+final-then w (c ∷ bs) cs = final-then (step w c .world) bs cs
 
 -- ---- from the command word on
 
@@ -119,9 +123,26 @@ module _ (w : World) (x : ℕ) (t : Table) (n : ℕ) (h : Fit w) (on : w .pod .i
 -- a whole load: exactly the addressed words, or nothing and message error, over any table, any N and any words
 pub load-whole : LoadWhole
 unfolding final closeOf
-load-whole w x t n xs h on asks whole =
-    ap (λ (v : World). final v (map dataIn xs)) (word-opens w x t n h on asks)
-    ∙ whole-load (laid (opening w x t n h on asks) w) t n xs (opening-fit w x t n h on asks) refl whole
+load-whole w x t n cs y h on asks left whole =
+    let o = opened t n w in
+    let fit : Fit o = opening-fit w x t n h on asks in
+    let xs = wordsIn cs in
+    let z = final o (othersIn cs) in
+    let through = between t n cs 0 (o .pod .words .load) o (record { ready = load-ready o t n xs fit refl; transfer = refl }) left (omega arith) in
+    let kept = through .kept in
+    let fit′ : Fit z = record { tables = through .opened .ready .tables; sound = in-pod (through .opened .ready .pod); load = ap length (kept .load) ∙ fit .load } in
+    let part : final o cs ≡ final z (map dataIn xs) =
+    through .world
+    ∙ ap₂ (λ (k : ℕ) (l : List ℕ). along t n k (sets l 0 xs) z) (zero-add (length xs)) (sym (kept .load))
+    ∙ sym (part-world z t n xs fit′ (through .opened .transfer) (omega arith)) in
+    let all : length (xs ++ (y ∷ [])) ≡ n = simp length-append whole in
+    ap (λ (v : World). final v (cs ++ (dataIn y ∷ []))) (word-opens w x t n h on asks)
+    ∙ final-then o cs (dataIn y ∷ [])
+    ∙ ap (λ (v : World). final v (dataIn y ∷ [])) part
+    ∙ sym (final-then z (map dataIn xs) (dataIn y ∷ []))
+    ∙ ap (final z) (sym (map-append dataIn xs (y ∷ [])))
+    ∙ whole-load z t n (xs ++ (y ∷ [])) fit′ (through .opened .transfer) all
+    ∙ ap (λ (s : Three). loaded t n (xs ++ (y ∷ [])) s z) (kept .tables)
 
 -- a load cut anywhere, by any call: the tables are as if no word of it had come
 pub load-cut : LoadCut

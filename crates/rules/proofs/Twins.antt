@@ -34,7 +34,7 @@ use Rattle.rules.specs.State.{ringOf, withRing, remainingOf, freshPod, s
 use Rattle.rules.specs.Obey.{shut, initialisedPod, initialiseRule, statusRule, updateRule, writeRule, readBy, readRule, receiveRule, shutdownRule, isInitialise, ruleOf, obeyOf, matches, dropFrom, settled, acknowledgedOf}
 use Rattle.rules.specs.Refusals.{Said, refused, done, Row, lowest, gated, roomRow, allRow, tablesRow, stateRow, blockRow, asleepRow, fullRow}
 use Rattle.rules.specs.Calls.{Outcome, Powered, powerCall, Spoken, silent, says, heardOf, replyBytes, spokenBytes, answeredWith, answeredBy, Packeted, packetCall, deadlineCall, Put, putCall, Worded, commandCall, dataInCall, dataOutCall, statusCall, Piping, byteCall, timeoutCall}
-use Rattle.rules.specs.World.{World, Call, power, packet, deadline, put, command as word, dataIn, dataOut, status, samples, byte, timeout, Told, told, Point, point, Stepped, stepped, isRefused, byPut, step, run}
+use Rattle.rules.specs.World.{World, Call, power, packet, deadline, put, command as word, dataIn, dataOut, status, samples, byte, timeout, Told, Point, point, Stepped, stepped, isRefused, byPut, step, run}
 use Rattle.rules.proofs.Pick.{by-test, split}
 use Rattle.rules.proofs.Bounds.{pod-in}
 use Rattle.rules.proofs.Gates.{sized, put-fits}

@@ -40,7 +40,7 @@ pub words-clear : (t : Three) (p : Pod) → tablesSized t ≡ true → soundPod 
 unfolding lowest
 words-clear t p h k = simp (h, k)
 
-data-step : (w : World) (x : ℕ) → Ready w → step w (dataIn x) .world ≡ laid (dataInOf x (portOf w)) w
+pub data-step : (w : World) (x : ℕ) → Ready w → step w (dataIn x) .world ≡ laid (dataInOf x (portOf w)) w
 unfolding step dataInCall
 data-step w x h = rw (eq-eqb _ _ (words-clear (w .tables) (w .pod) (h .tables) (in-pod (h .pod))))
 

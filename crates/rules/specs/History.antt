@@ -12,6 +12,7 @@ use Rattle.packets.specs.declared.Command.{Command}
 use Rattle.packets.specs.declared.Command.the-variants as command
 use Rattle.packets.specs.declared.Parsed.{Parsed}
 use Rattle.packets.specs.declared.Parsed.the-variants.{Nothing, Error, Acknowledgement, Asked}
+use Rattle.packets.specs.Commands.{rowOf as commandRow}
 use Rattle.packets.specs.Reading.{readOf}
 use Rattle.params.specs.Rows.{rowOf}
 use Rattle.rules.specs.declared.Exchange.{Exchange}
@@ -84,24 +85,17 @@ isReceive s Status = false
 isReceive s Read = false
 isReceive s (Receive r) = sameStore s r
 
--- whether a packet is an Initialise
-abbrev pub asksInitialise : Parsed → Bool
-asksInitialise Nothing = false
-asksInitialise (Error first n) = false
-asksInitialise (Acknowledgement first one) = false
-asksInitialise (Asked (command.Initialise f)) = true
-asksInitialise (Asked command.Status) = false
-asksInitialise (Asked (command.Update f)) = false
-asksInitialise (Asked (command.Write id v)) = false
-asksInitialise (Asked (command.Read id)) = false
-asksInitialise (Asked command.Priority) = false
-asksInitialise (Asked command.Data) = false
-asksInitialise (Asked command.Shutdown) = false
+-- whether a packet is the command of a code
+abbrev pub asksFor : ℕ → Parsed → Bool
+asksFor k Nothing = false
+asksFor k (Error first n) = false
+asksFor k (Acknowledgement first one) = false
+asksFor k (Asked c) = eqb (commandRow c .code) k
 
 -- a call begins anew: power on, or an accepted Initialise
 unfoldable pub begins : Call → Told → Bool
 begins power t = not (isRefused (t .said))
-begins (packet b room) t = asksInitialise (readOf b) && succeeded t
+begins (packet b room) t = asksFor 0x90 (readOf b) && succeeded t
 begins deadline t = false
 begins (put s b) t = false
 begins (command y) t = false

@@ -3,16 +3,14 @@
 use Prim.Native.Nat.{ℕ}
 use mathlib.Core.Path.{_≡_}
 use mathlib.Core.Bool.{true, false}
-use mathlib.Core.List.{List, [], _∷_, map}
+use mathlib.Core.List.{List, [], _∷_}
 use lib.ListN.{length}
 use Rattle.packets.specs.declared.Fields.{Fields}
 use Rattle.packets.specs.declared.Parsed.the-variants.{Asked}
 use Rattle.packets.specs.declared.Command.the-variants.{Initialise, Shutdown}
 use Rattle.packets.specs.Reading.{readOf}
-use Rattle.tables.specs.Tables.{Three}
-use Rattle.rules.specs.declared.Pod.{Pod}
 use Rattle.rules.specs.State.{soundPod}
-use Rattle.rules.specs.World.{World, Call, packet, Told, step, run}
+use Rattle.rules.specs.World.{World, Call, packet, Told, step}
 use Rattle.rules.specs.History.{succeeded}
 
 -- the packet is an Initialise with these fields, and this world accepts it
