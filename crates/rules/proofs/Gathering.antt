@@ -33,11 +33,11 @@ open-on p h o =
     (λ e. absurd (false≢true (sym (and-false (isClosed (p .exchange))) ∙ rw (e, o) at (h .rest))))
 
 -- a call is a data word written, or has none
-data Which : Call → Type 0 where
+pub data Which : Call → Type 0 where
   data-word : (x : ℕ) → Which (dataIn x)
   other : {c : Call} → wordOf c ≡ [] → Which c
 
-which : (c : Call) → Which c
+pub which : (c : Call) → Which c
 which power = other refl
 which (packet b room) = other refl
 which deadline = other refl

@@ -31,5 +31,6 @@ pub mod TablesOnly
 pub mod Holding
 pub mod Between
 pub mod Gathering
+pub mod Unseen
 pub mod Loads
 pub mod Shows

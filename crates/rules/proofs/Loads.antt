@@ -4,12 +4,13 @@ use Prim.Native.Nat.{ℕ, _+_, _<_, _≤_}
 use native.Mathlib.Nat.{zero-add}
 use native.Mathlib.Omega.{arith}
 use mathlib.Core.Path.{_≡_, refl, sym, ap, ap₂, _∙_}
-use mathlib.Core.Bool.{Bool, true, false, not, _||_, cond}
+use mathlib.Core.Bool.{Bool, true, false, not, _||_, cond, false≢true}
 use mathlib.Core.List.{List, [], _∷_, _++_, map, map-append}
 use borrow.Author.Tests.{eq-eqb}
 use lib.ListN.{length, getD, drop, length-append, length-drop}
-use lib.Seq.{sets, take-all}
+use lib.Seq.{sets, length-sets, take-all}
 use Rattle.tables.specs.declared.Table.{Table}
+use Rattle.tables.specs.declared.Transfer.{Transfer}
 use Rattle.tables.specs.declared.Transfer.the-variants.{Idle, Load}
 use Rattle.tables.specs.Tables.{Three, numberOf, sizeOf, wordsOf, withTable}
 use Rattle.tables.specs.declared.Order.the-variants.{Writing}
@@ -19,19 +20,17 @@ use Rattle.tables.specs.Port.{Tabled, tabled, withTransfer, isOpen, closeOf, da
 use Rattle.tables.proofs.Kept.{command-sound, command-load}
 use Rattle.tables.proofs.Limits.{sound-transfer, LoadIn, load-in}
 use Rattle.tables.proofs.Gathering.{part-gathers, load-taken, load-refused}
-use Rattle.rules.specs.declared.Pod.{Pod}
-use Rattle.rules.specs.State.{soundPod}
 use Rattle.rules.specs.Calls.{commandCall}
-use Rattle.rules.specs.World.{World, Call, command as word, dataIn, withPod, step, final}
-use Rattle.rules.specs.Loads.{Fit, wordsIn, othersIn, opened, loaded}
+use Rattle.rules.specs.World.{World, Call, command as word, dataIn, Point, point, Stepped, step, final, run}
+use Rattle.rules.specs.Loads.{Fit, closes, wordsIn, othersIn, opened, loaded}
 use Rattle.rules.specs.Demands.{LoadWhole, LoadCut}
 use Rattle.rules.proofs.Pick.{split, or-true}
 use Rattle.rules.proofs.Bounds.{in-pod, pod-in}
 use Rattle.rules.proofs.Written.{portOf, laid, Ready, words-clear, on-words, final-written}
-use Rattle.rules.proofs.Restarts.{same-tables}
-use Rattle.rules.proofs.Holding.{holding}
-use Rattle.rules.proofs.Gathering.{open-on, along, between}
-use Rattle.rules.proofs.Between.{loads, sound-hold}
+use Rattle.rules.proofs.Holding.{hold}
+use Rattle.rules.proofs.Gathering.{open-on, Which, data-word, other, which, along, between}
+use Rattle.rules.proofs.Between.{Alike, loads, Beside, stays, shuts, begun, other-beside}
+use Rattle.rules.proofs.Unseen.{unseen, unseen-run}
 
 or-false : (a : Bool) → (a || false) ≡ a
 or-false true = refl
@@ -74,23 +73,9 @@ module _ (w : World) (t : Table) (n : ℕ) (xs : List ℕ) (h : Fit w) (opened :
         let so = words-written ∙ ap (λ (d : Tabled). laid d w) (load-refused t n (portOf w) opened xs whole least room e) in
         rw (so, e, or-true (w .pod .words .error)))
 
-  -- cut short, it has changed the words of the state alone
-  module _ (part : length xs < n) where
-    abbrev cut : Pod
-    cut = holding (Load t n (length xs)) (sets (w .pod .words .load) 0 xs) (w .pod)
-
-    part-world : final w (map dataIn xs) ≡ withPod cut w
-    part-world = words-written ∙ ap (λ (d : Tabled). laid d w) (part-gathers t n (portOf w) opened xs part)
-
-    cut-sound : soundPod cut ≡ true
-    cut-sound = sound-hold w (Load t n (length xs)) (sets (w .pod .words .load) 0 xs) (rw opened (loads t n (length xs) 0 part (omega arith))) ∙ h .sound
-
-    cut-load : (c : Call) → (final w (map dataIn xs) .tables ≡ w .tables)
-        × (((x : ℕ) → c ≡ dataIn x → ⊥) → step (final w (map dataIn xs)) c .world .tables ≡ step w c .world .tables)
-    cut-load c = (
-      ap (λ (v : World). v .tables) part-world,
-      λ other. ap (λ (v : World). step v c .world .tables) part-world ∙ same-tables w cut (h .sound) cut-sound refl c other,
-    )
+  -- a part of its words
+  part-world : length xs < n → final w (map dataIn xs) ≡ along t n (length xs) (sets (w .pod .words .load) 0 xs) w
+  part-world part = words-written ∙ ap (λ (d : Tabled). laid d w) (part-gathers t n (portOf w) opened xs part)
 
 -- the world after some calls and then some more
 final-then : (w : World) (bs cs : List Call) → final w (bs ++ cs) ≡ final (final w bs) cs
@@ -144,6 +129,35 @@ load-whole w x t n cs y h on asks left whole =
     ∙ whole-load z t n (xs ++ (y ∷ [])) fit′ (through .opened .transfer) all
     ∙ ap (λ (s : Three). loaded t n (xs ++ (y ∷ [])) s z) (kept .tables)
 
--- a load cut anywhere, by any call: the tables are as if no word of it had come
+-- ---- cut short
+
+module _ (t : Table) (n k : ℕ) (l : List ℕ) (z : World) (long : length l ≡ length (z .pod .words .load)) where
+  -- the call that closes the load, and those behind it, are told the same without its words
+  closed-run : (cs : List Call) {c : Call} {x y : Stepped} → Beside c (Load t n k) l z x y → closes c (x .told) ≡ true
+      → _≡_ {A = List Point} (point x ∷ run (x .world) cs) (point y ∷ run (y .world) cs)
+  closed-run cs (stays y left kept) e = absurd (false≢true (sym left ∙ e))
+  closed-run cs (shuts y shut none long′) e = ap (λ (r : List Point). point y ∷ r) (unseen-run (unseen (y .world) l (long ∙ sym long′) (rw none)) cs)
+  closed-run cs (begun y shut) e = refl
+
+  cut-run : (cs : List Call) {c : Call} → Which c → Alike (Load t n k) (z .pod .words .transfer) → closes c (step (along t n k l z) c .told) ≡ true
+      → run (along t n k l z) (c ∷ cs) ≡ run z (c ∷ cs)
+  unfolding run closes
+  cut-run cs (data-word x) a e = absurd (false≢true e)
+  cut-run cs {c} (other d) a e = closed-run cs (other-beside z (Load t n k) l a c d) e
+
+-- a load cut anywhere, by whatever call: from there on it is as if no word of it had come
 pub load-cut : LoadCut
-load-cut w t n xs c h opened part = cut-load w t n xs h opened part c
+load-cut w t n bs c cs h opened left part =
+    let xs = wordsIn bs in
+    let z = final w (othersIn bs) in
+    let same : w ≡ along t n 0 (w .pod .words .load) w = ap (λ (u : Transfer). hold u (w .pod .words .load) w) opened in
+    let through = between t n bs 0 (w .pod .words .load) w (record { ready = load-ready w t n xs h opened; transfer = opened }) (rw same at left) (omega arith) in
+    let kept = through .kept in
+    let k = 0 + length xs in
+    let l = sets (w .pod .words .load) 0 xs in
+    let so : final w bs ≡ along t n k l z = ap (λ (v : World). final v bs) same ∙ through .world in
+    let long : length l ≡ length (z .pod .words .load) = length-sets (w .pod .words .load) 0 xs ∙ sym (ap length (kept .load)) in
+    let alike : Alike (Load t n k) (z .pod .words .transfer) = rw (through .opened .transfer) (loads t n k 0 (omega arith) (omega arith)) in (
+      ap (λ (v : World). v .tables) so ∙ kept .tables,
+      λ e. rw so (cut-run t n k l z long cs (which c) alike (rw so at e)),
+    )

@@ -19,7 +19,7 @@ use Rattle.tables.specs.declared.Transfer.the-variants.{Load}
 use Rattle.tables.specs.Tables.{Three, three, numberOf as tables-numberOf, sizeOf, starts}
 use Rattle.rules.specs.State.{withRing, withPipe}
 use Rattle.rules.specs.Refusals.{Said, refused}
-use Rattle.rules.specs.World.{World, Call, packet as bring, deadline, put, command as order, dataIn, status, samples, byte, timeout, Told, withPod, withTables, powered}
+use Rattle.rules.specs.World.{World, Call, power, packet as bring, deadline, put, command as word, dataIn, dataOut, status, samples, byte, timeout, Told, withPod, withTables, powered}
 use Rattle.rules.specs.History.{historyOf, succeeded}
 use Rattle.rules.specs.Pairs.{Accepts, ShutsDown, Near, Asleep}
 use Rattle.rules.specs.Loads.{Fit, closes, leftOpen, wordsIn, opened}
@@ -78,7 +78,7 @@ left w = step w (asks command.Shutdown) .world
 
 -- a load of four words to table 5, open
 abbrev loading : World
-loading = final justInitialised (order 0x0A04 ∷ [])
+loading = final justInitialised (word 0x0A04 ∷ [])
 
 -- its first three words with other calls in between: a packet answered, one damaged, one refused, an Initialise and a put not
 -- accepted, a put, the deadline, the status word, a byte and its timeout, samples
@@ -130,6 +130,10 @@ pub record NotEmpty : Type 0 where
   -- many calls leave it open, and three of its words come in between
   pub amid : leftOpen (historyOf (opened Five 4 justInitialised) mixed) ≡ true
   pub three-words : wordsIn mixed ≡ 5 ∷ 63 ∷ 1 ∷ []
+  -- and each call that closes it does: power on, an Initialise, a Shutdown, a command word accepted and one not, a data word read
+  pub cut : map (λ (c : Call). closes c (step (final loading (dataIn 5 ∷ [])) c .told))
+      (power ∷ asks (command.Initialise freshFields) ∷ asks command.Shutdown ∷ word 0x8000 ∷ word 0x0000 ∷ dataOut ∷ [])
+      ≡ replicate 6 true
   -- a packet is damaged by its length, one by its CRC
   pub short : damaged (0x91 ∷ []) ≡ true
   pub wrong : damaged (0x91 ∷ 0x01 ∷ 0x00 ∷ 0x00 ∷ []) ≡ true
@@ -167,6 +171,7 @@ not-empty =
       not-taken = refl;
       amid = refl;
       three-words = refl;
+      cut = refl;
       short = refl;
       wrong = refl;
       numbers = refl;

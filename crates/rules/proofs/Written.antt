@@ -67,9 +67,3 @@ final-written [] w h = refl
 final-written (x ∷ xs) w h =
     ap (λ (v : World). final v (map dataIn xs)) (data-step w x h)
     ∙ final-written xs (laid (dataInOf x (portOf w)) w) (data-ready w x h)
-
--- and leave a world of that kind
-pub written-ready : (xs : List ℕ) (w : World) → Ready w → Ready (laid (writtenOf xs (portOf w)) w)
-unfolding writtenOf
-written-ready [] w h = h
-written-ready (x ∷ xs) w h = written-ready xs (laid (dataInOf x (portOf w)) w) (data-ready w x h)

@@ -27,7 +27,7 @@ use Rattle.rules.specs.Checks.{Answers, errored}
 use Rattle.rules.specs.Replies.{answering, readFrom, receivedFrom, statusFrom}
 use Rattle.rules.specs.History.{begins, historyOf, receives, waitingFrom, nothingWaits, timeoutsFrom}
 use Rattle.rules.specs.Pairs.{Accepts, ShutsDown, Near, Asleep, tells, Event, past}
-use Rattle.rules.specs.Loads.{Fit, leftOpen, wordsIn, othersIn, opened, loaded}
+use Rattle.rules.specs.Loads.{Fit, closes, leftOpen, wordsIn, othersIn, opened, loaded}
 
 -- ---- 1. "Any packet, word, sample or state may arrive. Each is answered, or refused by a number in document 01"
 
@@ -62,12 +62,14 @@ LoadWhole =
     → leftOpen (historyOf (opened t n w) cs) ≡ true → length (wordsIn cs) + 1 ≡ n
     → final w (word x ∷ (cs ++ (dataIn y ∷ []))) ≡ loaded t n (wordsIn cs ++ (y ∷ [])) (w .tables) (final (opened t n w) (othersIn cs))
 
--- a load cut short leaves nothing behind: whatever call but a data word comes next, the tables are as if no word had come
+-- a load cut short leaves nothing behind: while it is open none of its words stands in a table, and from the call on that closes it
+-- before its last word, all answers and table words are, for ever, as if no word of it had come
 abbrev pub LoadCut : Type 0
 LoadCut =
-    (w : World) (t : Table) (n : ℕ) (xs : List ℕ) (c : Call) → Fit w → w .pod .words .transfer ≡ Load t n 0 → length xs < n
-    → (final w (map dataIn xs) .tables ≡ w .tables)
-    × (((x : ℕ) → c ≡ dataIn x → ⊥) → step (final w (map dataIn xs)) c .world .tables ≡ step w c .world .tables)
+    (w : World) (t : Table) (n : ℕ) (bs : List Call) (c : Call) (cs : List Call) → Fit w → w .pod .words .transfer ≡ Load t n 0
+    → leftOpen (historyOf w bs) ≡ true → length (wordsIn bs) < n
+    → (final w bs .tables ≡ w .tables)
+    × (closes c (step (final w bs) c .told) ≡ true → run (final w bs) (c ∷ cs) ≡ run (final w (othersIn bs)) (c ∷ cs))
 
 -- ".. and no other": power on, an accepted Initialise, a data word written and the command word "tables to their starts" apart, a
 -- call leaves the tables as they are
