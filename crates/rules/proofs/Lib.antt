@@ -19,6 +19,7 @@ pub mod Fares
 pub mod Laws
 pub mod Lawful
 pub mod Histories
+pub mod Runs
 pub mod Twins
 pub mod NoTrace
 pub mod Shutdown

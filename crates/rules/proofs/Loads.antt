@@ -24,17 +24,13 @@ use Rattle.rules.specs.Calls.{commandCall}
 use Rattle.rules.specs.World.{World, Call, command as word, dataIn, Point, point, Stepped, step, final, run}
 use Rattle.rules.specs.Loads.{Fit, closes, wordsIn, othersIn, opened, loaded}
 use Rattle.rules.specs.Demands.{LoadWhole, LoadCut}
-use Rattle.rules.proofs.Pick.{split, or-true}
+use Rattle.rules.proofs.Pick.{split, or-true, or-false}
 use Rattle.rules.proofs.Bounds.{in-pod, pod-in}
 use Rattle.rules.proofs.Written.{portOf, laid, Ready, words-clear, on-words, final-written}
 use Rattle.rules.proofs.Holding.{hold}
 use Rattle.rules.proofs.Gathering.{open-on, Which, data-word, other, which, along, between}
 use Rattle.rules.proofs.Between.{Alike, loads, Beside, stays, shuts, begun, other-beside}
 use Rattle.rules.proofs.Unseen.{unseen, unseen-run}
-
-or-false : (a : Bool) → (a || false) ≡ a
-or-false true = refl
-or-false false = refl
 
 module _ (w : World) (t : Table) (n : ℕ) (xs : List ℕ) (h : Fit w) (opened : w .pod .words .transfer ≡ Load t n 0) where
   -- an open load finds all in order

@@ -34,7 +34,7 @@ use Rattle.rules.specs.State.{withExchange, ringOf, remainingOf, freshPo
 use Rattle.rules.specs.Obey.{obeyed, failed, shut, initialisedPod, initialiseRule, statusRule, updateRule, writeRule, readBy, readRule, receiveRule, shutdownRule, ruleOf, isInitialise, obeyOf}
 use Rattle.rules.specs.Calls.{heardBy, heardOf}
 use Rattle.rules.specs.History.{opens, exchangeBy, asksFor, receives, acknowledged}
-use Rattle.rules.proofs.Pick.{by-test, split, and-false}
+use Rattle.rules.proofs.Pick.{by-test, split, and-false, over-none}
 use Rattle.rules.proofs.Bounds.{PodIn}
 use Rattle.rules.proofs.Fares.{Arrays, blocksBoth, Fares, acknowledged-fares}
 
@@ -151,9 +151,6 @@ unfolding By readBy exchangeBy opens acknowledged commandRow placeOf
 read-fares (inl n) id p = failed-fares (command.Read id) n p
 read-fares (inr v) id p =
     record { exchange = refl; blocks = λ k s l m. refl; timeouts = refl; values = λ id e. refl; written = λ a id e. refl; fields = λ k. refl; awake = refl; waits = λ k. tt; arrays = λ a. a }
-
-over-none : {n : ℕ} → eqb n 0 ≡ false → 0 < n
-over-none {n} e = let some = eqb-false n 0 e in omega arith
 
 opened-fares : (s : Store) (p : Pod) → 0 < ringOf s (shut p) .waiting → 0 < remainingOf s (p .fields)
     → By (receives s) p (obeyed (Block s) (withExchange (Receive s) (shut p)))

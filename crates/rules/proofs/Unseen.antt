@@ -5,7 +5,7 @@ use Prim.Native.Nat.{ℕ, zero, suc, _+_, _≤_, _<_}
 use native.Mathlib.Nat.{zero-add, suc-add}
 use native.Mathlib.Numerals.{add-one}
 use native.Mathlib.Omega.{arith}
-use mathlib.Core.Path.{_≡_, refl, sym, ap, ap₂, _∙_}
+use mathlib.Core.Path.{_≡_, refl, sym, ap, _∙_}
 use mathlib.Core.Bool.{true}
 use mathlib.Core.List.{List, [], _∷_, _++_}
 use lib.Dec.{ltb, eqb}
@@ -23,11 +23,12 @@ use Rattle.tables.proofs.Limits.{sound-transfer, LoadIn, load-in}
 use Rattle.rules.specs.State.{soundPod}
 use Rattle.rules.specs.Refusals.{done, lowest, tablesRow, stateRow}
 use Rattle.rules.specs.Calls.{dataInCall}
-use Rattle.rules.specs.World.{World, Call, dataIn, told, Point, point, Stepped, stepped, step, run}
+use Rattle.rules.specs.World.{World, Call, dataIn, told, Stepped, stepped, step, run}
 use Rattle.rules.proofs.Pick.{split}
 use Rattle.rules.proofs.Bounds.{pod-in}
 use Rattle.rules.proofs.Gates.{passed}
 use Rattle.rules.proofs.Written.{laid}
+use Rattle.rules.proofs.Runs.{Same, same-run}
 use Rattle.rules.proofs.Holding.{hold}
 use Rattle.rules.proofs.Between.{gathered, same, Beside, stays, shuts, begun, sound-hold, other-beside}
 use Rattle.rules.proofs.Gathering.{Which, data-word, other, which}
@@ -109,12 +110,7 @@ pub data Unseen : World → World → Type 0 where
       → take (gathered (w .pod .words .transfer)) l ≡ take (gathered (w .pod .words .transfer)) (w .pod .words .load)
       → Unseen (hold (w .pod .words .transfer) l w) w
 
--- the same is told, with the same table words, and two such worlds are left
-record Same (x y : Stepped) : Type 0 where
-  points : point x ≡ point y
-  worlds : Unseen (x .world) (y .world)
-
-same-world : (z : Stepped) → Same z z
+same-world : (z : Stepped) → Same Unseen z z
 same-world z = record { points = refl; worlds = unseen (z .world) (z .world .pod .words .load) refl refl }
 
 module _ (w : World) (l : List ℕ) (long : length l ≡ length (w .pod .words .load)) where
@@ -122,7 +118,7 @@ module _ (w : World) (l : List ℕ) (long : length l ≡ length (w .pod .words .
   this = w .pod .words .transfer
 
   module _ (first : take (gathered this) l ≡ take (gathered this) (w .pod .words .load)) where
-    beside-same : {c : Call} {x z : Stepped} → Beside c this l w x z → Same x z
+    beside-same : {c : Call} {x z : Stepped} → Beside c this l w x z → Same Unseen x z
     beside-same (stays z left kept) =
         record {
           points = refl;
@@ -131,10 +127,10 @@ module _ (w : World) (l : List ℕ) (long : length l ≡ length (w .pod .words .
     beside-same (shuts z shut none long′) = record { points = refl; worlds = unseen (z .world) l (long ∙ sym long′) (rw none) }
     beside-same (begun z shut) = same-world z
 
-    taken-same : {y d : Tabled} → After y d → Same (stepped (told done []) (laid y (hold this l w))) (stepped (told done []) (laid d w))
+    taken-same : {y d : Tabled} → After y d → Same Unseen (stepped (told done []) (laid y (hold this l w))) (stepped (told done []) (laid d w))
     taken-same {y} {d} a = rw (a .is) (record { points = refl; worlds = unseen (laid d w) (a .load) (a .long) (a .first) })
 
-    data-same : (x : ℕ) → Same (step (hold this l w) (dataIn x)) (step w (dataIn x))
+    data-same : (x : ℕ) → Same Unseen (step (hold this l w) (dataIn x)) (step w (dataIn x))
     unfolding step dataInCall dataInOf
     data-same x =
         let rows = tablesRow (w .tables) ∷ stateRow (w .pod) ∷ [] in
@@ -147,17 +143,13 @@ module _ (w : World) (l : List ℕ) (long : length l ≡ length (w .pod .words .
         (taken-same (taken-after x l (w .pod .words) (w .tables) long this (sound-transfer (w .pod .words) (pod-in (w .pod) sound .words)) first)))
         (λ e. rw (gate, e) (record { points = refl; worlds = unseen w l long first }))
 
-    step-same : {c : Call} → Which c → Same (step (hold this l w) c) (step w c)
+    step-same : {c : Call} → Which c → Same Unseen (step (hold this l w) c) (step w c)
     step-same (data-word x) = data-same x
     step-same {c} (other d) = beside-same (other-beside w this l (same this) c d)
 
-unseen-step : {v w : World} → Unseen v w → (c : Call) → Same (step v c) (step w c)
+unseen-step : {v w : World} → Unseen v w → (c : Call) → Same Unseen (step v c) (step w c)
 unseen-step (unseen w l long first) c = step-same w l long first (which c)
 
 -- so every list of calls tells the same
 pub unseen-run : {v w : World} → Unseen v w → (cs : List Call) → run v cs ≡ run w cs
-unfolding run
-unseen-run x [] = refl
-unseen-run {v} {w} x (c ∷ cs) =
-    let s : Same (step v c) (step w c) = unseen-step x c in
-    ap₂ (λ (e : Point) (l : List Point). e ∷ l) (s .points) (unseen-run (s .worlds) cs)
+unseen-run x cs = same-run Unseen (λ v w y c. unseen-step y c) x cs

@@ -4,7 +4,7 @@ use Prim.Native.Nat.{ℕ, _+_, _/_, _<_, min}
 use mathlib.Core.Path.{_≡_}
 use mathlib.Core.Logic.{_↔_}
 use mathlib.Core.Bool.{Bool, true, false, not, _&&_, _||_, cond}
-use mathlib.Core.List.{List, [], _∷_, _++_, map}
+use mathlib.Core.List.{List, [], _∷_, _++_}
 use lib.ListN.{length, getD, replicate}
 use lib.Dec.{eqb, ltb}
 use Rattle.blocks.specs.declared.Store.{Store}
@@ -21,10 +21,10 @@ use Rattle.tables.specs.Command.{heardOf}
 use Rattle.rules.specs.State.{ringOf, soundPod}
 use Rattle.rules.specs.Obey.{shut}
 use Rattle.rules.specs.Refusals.{refused}
-use Rattle.rules.specs.World.{World, Call, packet, command as word, dataIn, samples, roomOf, told, withPod, storeIn, isRefused, step, final, run, powered}
+use Rattle.rules.specs.World.{World, Call, packet, command as word, dataIn, samples, roomOf, told, withPod, storeIn, isRefused, step, final, run, powered, answering}
 use Rattle.rules.specs.Rows.{holds}
 use Rattle.rules.specs.Checks.{Answers, errored}
-use Rattle.rules.specs.Replies.{answering, readFrom, receivedFrom, statusFrom}
+use Rattle.rules.specs.Replies.{readFrom, receivedFrom, statusFrom}
 use Rattle.rules.specs.History.{begins, historyOf, receives, waitingFrom, nothingWaits, timeoutsFrom}
 use Rattle.rules.specs.Pairs.{Accepts, ShutsDown, Near, Asleep, tells, Event, past}
 use Rattle.rules.specs.Loads.{Fit, closes, leftOpen, wordsIn, othersIn, opened, loaded}
