@@ -16,10 +16,10 @@ use Rattle.tables.specs.Tables.{Three, numberOf, sizeOf, wordsOf, withTable}
 use Rattle.tables.specs.declared.Order.the-variants.{Writing}
 use Rattle.tables.specs.Bounds.{soundOf as soundWords}
 use Rattle.tables.specs.Command.{heardOf as orderHeard}
-use Rattle.tables.specs.Port.{Tabled, tabled, withTransfer, isOpen, closeOf, dataCount, obeyOf, tablesAfter, commandOf, rightOf, storedIn, writtenOf}
+use Rattle.tables.specs.Port.{Tabled, tabled, withTransfer, isOpen, closeOf, dataCount, obeyOf, tablesAfter, commandOf, rightOf, storedIn}
 use Rattle.tables.proofs.Kept.{command-sound, command-load}
 use Rattle.tables.proofs.Limits.{sound-transfer, LoadIn, load-in}
-use Rattle.tables.proofs.Gathering.{part-gathers, load-taken, load-refused}
+use Rattle.tables.proofs.Gathering.{writtenOf, part-gathers, load-taken, load-refused}
 use Rattle.rules.specs.Calls.{commandCall}
 use Rattle.rules.specs.World.{World, Call, command as word, dataIn, Point, point, Stepped, step, final, run}
 use Rattle.rules.specs.Loads.{Fit, closes, wordsIn, othersIn, opened, loaded}

@@ -8,8 +8,9 @@ use borrow.Author.Tests.{eq-eqb}
 use Rattle.tables.specs.declared.Words.{Words}
 use Rattle.tables.specs.Bounds.{soundOf as soundWords}
 use Rattle.tables.specs.Tables.{Three}
-use Rattle.tables.specs.Port.{Tabled, tabled, dataInOf, writtenOf}
+use Rattle.tables.specs.Port.{Tabled, tabled, dataInOf}
 use Rattle.tables.proofs.Kept.{data-in-sound, data-in-sized}
+use Rattle.tables.proofs.Gathering.{writtenOf}
 use Rattle.rules.specs.declared.Pod.{Pod}
 use Rattle.rules.specs.State.{withWords, restful, soundPod}
 use Rattle.rules.specs.Refusals.{tablesRow, stateRow, lowest, tablesSized}
