@@ -4,15 +4,15 @@ use Prim.Native.Nat.{ℕ, _+_, _<_, _≤_}
 use native.Mathlib.Nat.{zero-add}
 use native.Mathlib.Omega.{arith}
 use mathlib.Core.Path.{_≡_, refl, sym, ap, ap₂, _∙_}
-use mathlib.Core.Bool.{Bool, true, false, not, _||_, cond, false≢true}
+use mathlib.Core.Bool.{Bool, true, false, false≢true}
 use mathlib.Core.List.{List, [], _∷_, _++_, map, map-append}
 use borrow.Author.Tests.{eq-eqb}
 use lib.ListN.{length, getD, drop, length-append, length-drop}
 use lib.Seq.{sets, length-sets, take-all}
 use Rattle.tables.specs.declared.Table.{Table}
 use Rattle.tables.specs.declared.Transfer.{Transfer}
-use Rattle.tables.specs.declared.Transfer.the-variants.{Idle, Load}
-use Rattle.tables.specs.Tables.{Three, numberOf, sizeOf, wordsOf, withTable}
+use Rattle.tables.specs.declared.Transfer.the-variants.{Load}
+use Rattle.tables.specs.Tables.{Three, numberOf, sizeOf, wordsOf}
 use Rattle.tables.specs.declared.Order.the-variants.{Writing}
 use Rattle.tables.specs.Bounds.{soundOf as soundWords}
 use Rattle.tables.specs.Command.{heardOf as orderHeard}
@@ -55,9 +55,7 @@ module _ (w : World) (t : Table) (n : ℕ) (xs : List ℕ) (h : Fit w) (opened :
     data-words = ap (sets (wordsOf t (w .tables)) (getD xs 1 0)) (take-all (dataCount n) (drop 3 xs) (simp length-drop (omega arith)))
 
     -- judged with its last word
-    whole-load : final w (map dataIn xs)
-        ≡ laid (tabled (record { error = w .pod .words .error || not right; transfer = Idle; load = sets (w .pod .words .load) 0 xs; places = w .pod .words .places; given = w .pod .words .given })
-        (cond right (withTable t (storedIn n xs (wordsOf t (w .tables))) (w .tables)) (w .tables))) w
+    whole-load : final w (map dataIn xs) ≡ loaded t n xs (w .tables) w
     whole-load =
         let least = load-bounds .least in
         let room : n ≤ length (w .pod .words .load) = omega (arith, load-bounds .most, h .load) in
