@@ -11,7 +11,8 @@ use Rattle.pipe.specs.declared.Input.{Input}
 use Rattle.pipe.specs.Input.{gatheringOf}
 use Rattle.pipe.proofs.Stale.{Alike, alike-gathered}
 use Rattle.frames.specs.Samples.{averageOf, averagesOf, boundedOf}
-use Rattle.frames.specs.Fields.{frame, channelAt, disjoint, tiles, Each, Narrow, ReadBack}
+use Rattle.frames.specs.Fields.{frame}
+use Rattle.frames.proofs.Shape.{channelAt, disjoint, tiles, Each, Narrow, ReadBack}
 use Rattle.frames.specs.Layout.{an03, an47, framesOf}
 use Rattle.frames.proofs.Tiles.{read-back}
 use Rattle.frames.proofs.Bytes.{bytes-03, bytes-47}

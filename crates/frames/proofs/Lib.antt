@@ -3,6 +3,7 @@ pub mod Mixed
 pub mod Bounds
 pub mod Sums
 pub mod Bytes
+pub mod Shape
 pub mod Tiles
 pub mod Means
 pub mod Laws

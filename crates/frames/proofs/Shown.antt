@@ -7,7 +7,7 @@ use mathlib.Core.List.{List, [], _∷_}
 use lib.ListN.{length, getD, replicate}
 use Rattle.pipe.specs.declared.Input.{Input}
 use Rattle.pipe.specs.Input.{freshInput, gatheringOf}
-use Rattle.pipe.specs.Runs.{after, oneByOne}
+use Rattle.pipe.proofs.Runs.{after, oneByOne}
 use Rattle.pipe.proofs.Count.{fifteen}
 use Rattle.frames.specs.Samples.{sampleAt, sumOf, averageOf, averagesOf}
 use Rattle.frames.specs.Fields.{placed, frame}

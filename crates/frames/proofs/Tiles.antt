@@ -10,7 +10,8 @@ use borrow.Author.Tests.{eqb-true, leb-true, eq-eqb, ne-eqb}
 use lib.Dec.{eqb, leb}
 use lib.Pow.{pow-pos, pow-add}
 use Rattle.frames.proofs.Eight.{eight-at}
-use Rattle.frames.specs.Fields.{Field, part, placed, frame, width, tiles, Each, Narrow, ReadBack}
+use Rattle.frames.specs.Fields.{Field, part, placed, frame}
+use Rattle.frames.proofs.Shape.{width, tiles, Each, Narrow, ReadBack}
 
 -- a number m above w bits of v above l bits of r: bits l and up, w of them, are v
 read : (m v r l w : ℕ) → r < 2 ^ l → v < 2 ^ w → (m * 2 ^ (w + l) + (v * 2 ^ l + r)) / 2 ^ l % 2 ^ w ≡ v

@@ -21,7 +21,8 @@ use Rattle.packets.specs.declared.Parsed.the-variants.{Nothing, Error, A
 use Rattle.packets.specs.Numbers.{highFirst, numberOf, signedOf, unsignedOf}
 use Rattle.packets.specs.Commands.{fieldsBounded, findIn, listedIn, rowAt, isCode, placeOf, rowOf, saidOf}
 use Rattle.packets.specs.Reading.{first, crcRight, readOf}
-use Rattle.packets.specs.Answers.{closed, answerOf, errorAnswer, doneAnswer, statusBody, statusAnswer, valueBody, valueAnswer, dataAnswer, fieldBytes, bodyOf, bytesOf, Sendable}
+use Rattle.packets.specs.Answers.{closed, answerOf, errorAnswer, doneAnswer, statusBody, statusAnswer, valueBody, valueAnswer, dataAnswer, fieldBytes, bodyOf, bytesOf}
+use Rattle.packets.proofs.Sendable.{Sendable}
 use Rattle.packets.proofs.Digits.{number-back}
 use Rattle.packets.proofs.Complement.{signed-back}
 use Rattle.packets.proofs.Rows.{split}

@@ -7,6 +7,7 @@ pub mod Room
 pub mod Bodies
 pub mod Said
 pub mod First
+pub mod Sendable
 pub mod Sent
 pub mod Laws
 pub mod Shown

@@ -17,7 +17,8 @@ use Rattle.packets.specs.declared.Parsed.the-variants.{Acknowledgement, 
 use Rattle.packets.specs.Numbers.{highFirst, numberOf, numberAt, signedOf, unsignedOf}
 use Rattle.packets.specs.Commands.{fieldsIn, findIn, listedIn, rowAt, isCode, placeOf, rowOf}
 use Rattle.packets.specs.Reading.{first, second, crcRight, acknowledges, readOf}
-use Rattle.packets.specs.Answers.{closed, answerOf, errorAnswer, doneAnswer, valueBody, fieldBytes, bodyOf, bytesOf, FieldsFit, Sendable}
+use Rattle.packets.specs.Answers.{closed, answerOf, errorAnswer, doneAnswer, valueBody, fieldBytes, bodyOf, bytesOf}
+use Rattle.packets.proofs.Sendable.{FieldsFit, Sendable}
 use Rattle.packets.proofs.Digits.{high-first-length, number-back}
 use Rattle.packets.proofs.Complement.{signed-back, unsigned-below}
 use Rattle.packets.proofs.Checks.{acknowledged, asked}

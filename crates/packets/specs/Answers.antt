@@ -1,12 +1,11 @@
 -- The bytes of each answer, and those of each command.
 -- Assumes nothing.
-use Prim.Native.Nat.{ℕ, _+_, _*_, _^_, _<_}
+use Prim.Native.Nat.{ℕ, _+_, _*_}
 use mathlib.Core.Path.{_≡_}
 use mathlib.Core.List.{List, [], _∷_, _++_}
 use lib.IntN.{ℤ}
 use lib.ListN.{length}
 use lib.Seq.{sets}
-use lib.Signed.{mag}
 use Rattle.crc.specs.Crc.{crcOf}
 use Rattle.packets.specs.declared.Fields.{Fields}
 use Rattle.packets.specs.declared.Command.{Command}
@@ -79,25 +78,3 @@ bodyOf Shutdown = []
 -- a command's packet: its code, 0x01, its fields, CRC
 unfoldable pub bytesOf : Command → List ℕ
 bytesOf c = answerOf (rowOf c .code) 0x01 (bodyOf c)
-
--- fields that fit their widths
-pub record FieldsFit (f : Fields) : Type 0 where
-  pub flags : f .flags < 2 ^ 16
-  pub seconds : f .seconds < 2 ^ 22
-  pub milliseconds : f .milliseconds < 2 ^ 10
-  pub prioritylimit : f .prioritylimit < 2 ^ 16
-  pub priorityremaining : f .priorityremaining < 2 ^ 16
-  pub memorylimit : f .memorylimit < 2 ^ 32
-  pub memoryremaining : f .memoryremaining < 2 ^ 32
-  pub poll : f .poll < 2 ^ 16
-
--- a command that its bytes can carry; a Read of id 0x7E has the bytes of an acknowledgement, and is taken as one
-abbrev pub Sendable : Command → Type 0
-Sendable (Initialise f) = FieldsFit f
-Sendable Status = Unit {0}
-Sendable (Update f) = FieldsFit f
-Sendable (Write id v) = mag v < 2 ^ 31
-Sendable (Read id) = id ≡ 0x7E → ⊥
-Sendable Priority = Unit {0}
-Sendable Data = Unit {0}
-Sendable Shutdown = Unit {0}

@@ -10,8 +10,8 @@ use lib.Dec.{eqb}
 use lib.ListN.{length}
 use Rattle.pipe.specs.declared.Input.{Input}
 use Rattle.pipe.specs.Input.{held, packet, emptyInput, freshInput, gathers, byteOf, countUp, timeoutOf}
-use Rattle.pipe.specs.Runs.{Call, called, after, short, shorts, oneByOne}
-use Rattle.pipe.specs.Runs.Call.{byte, timeout}
+use Rattle.pipe.proofs.Runs.{Call, called, after, short, shorts, oneByOne}
+use Rattle.pipe.proofs.Runs.Call.{byte, timeout}
 use Rattle.pipe.proofs.Cases.{byte-cases, timeout-cases}
 use Rattle.pipe.proofs.Held.{Whole, length-held, whole-empty}
 use Rattle.pipe.proofs.Laws.{whole-called}

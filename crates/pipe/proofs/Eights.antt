@@ -12,8 +12,8 @@ use lib.Seq.{take-at, drop-at, drop-drop, append-snoc}
 use Rattle.pipe.specs.declared.Input.{Input}
 use Rattle.pipe.specs.declared.Sent.{Sent}
 use Rattle.pipe.specs.Input.{held, packet, listOf, emptyInput, freshInput, gathers}
-use Rattle.pipe.specs.Runs.{called, after, sends, packets, cut, eights, over}
-use Rattle.pipe.specs.Runs.Call.{byte}
+use Rattle.pipe.proofs.Runs.{called, after, sends, packets, cut, eights, over}
+use Rattle.pipe.proofs.Runs.Call.{byte}
 use Rattle.pipe.proofs.Cases.{byte-cases}
 use Rattle.pipe.proofs.Held.{Whole, length-held, held-gathers, held-empty, listed, whole-empty, whole-gathers}
 

@@ -10,8 +10,8 @@ use lib.ListN.{length}
 use lib.Dec.{leb}
 use Rattle.pipe.specs.declared.Input.{Input}
 use Rattle.pipe.specs.Input.{held, listOf, emptyInput, freshInput, gathers, byteOf, countUp, timeoutOf, soundOf}
-use Rattle.pipe.specs.Runs.{Call, called, after, sends, brought, given}
-use Rattle.pipe.specs.Runs.Call.{byte, timeout}
+use Rattle.pipe.proofs.Runs.{Call, called, after, sends, brought, given}
+use Rattle.pipe.proofs.Runs.Call.{byte, timeout}
 use Rattle.pipe.proofs.Cases.{byte-cases, timeout-cases}
 use Rattle.pipe.proofs.Held.{Whole, held-gathers, held-empty, listed, whole-byte, whole-timeout}
 

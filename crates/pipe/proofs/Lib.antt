@@ -1,3 +1,4 @@
+pub mod Runs
 pub mod Zeros
 pub mod Cases
 pub mod Held

@@ -8,8 +8,8 @@ use lib.ListN.{length}
 use Rattle.pipe.specs.declared.Input.{Input}
 use Rattle.pipe.specs.declared.Piped.{Piped}
 use Rattle.pipe.specs.Input.{held, emptyInput, gathers, byteOf, countUp, timeoutOf}
-use Rattle.pipe.specs.Runs.{Call, called, sends}
-use Rattle.pipe.specs.Runs.Call.{byte, timeout}
+use Rattle.pipe.proofs.Runs.{Call, called, sends}
+use Rattle.pipe.proofs.Runs.Call.{byte, timeout}
 use Rattle.pipe.proofs.Cases.{byte-cases, timeout-cases, byte-gathers, byte-sends, timeout-idle, timeout-sends}
 use Rattle.pipe.proofs.Held.{Whole, length-held, held-gathers, whole-empty, whole-gathers}
 

@@ -2,42 +2,29 @@
 -- Assumes nothing.
 use Prim.Native.Nat.{ℕ}
 use mathlib.Core.Path.{_≡_, refl, sym, ap, _∙_}
-use mathlib.Core.Bool.{true, false, _&&_, _||_, false≢true}
+use mathlib.Core.Bool.{true, false, _||_}
 use mathlib.Core.List.{List}
 use lib.ListN.{length}
-use Rattle.tables.specs.declared.Transfer.{Transfer}
-use Rattle.tables.specs.declared.Transfer.the-variants.{Idle, Address, Load, Read}
+use Rattle.tables.specs.declared.Transfer.the-variants.{Idle}
 use Rattle.tables.specs.Tables.{Three, starts}
 use Rattle.tables.specs.Port.{closeOf, isOpen}
 use Rattle.tables.specs.Bounds.{soundPlaces, soundTransfer, soundOf as soundWords}
-use Rattle.rules.specs.declared.Exchange.{Exchange}
 use Rattle.rules.specs.declared.Exchange.the-variants as exchange
 use Rattle.rules.specs.declared.Pod.{Pod}
-use Rattle.rules.specs.State.{isClosed, isIdle, freshPod, restful, soundPod}
+use Rattle.rules.specs.State.{freshPod, restful, soundPod}
 use Rattle.rules.specs.Refusals.{lowest, tablesSized}
 use Rattle.rules.specs.Calls.{powerCall}
-use Rattle.rules.specs.World.{World, power, step}
+use Rattle.rules.specs.World.{World, step}
 use Rattle.rules.specs.Pairs.{Near, Asleep}
 use Rattle.rules.specs.Demands.{AnswerAlike, AsleepFromPower, AsleepFromShutdown}
-use Rattle.rules.proofs.Pick.{split, and-left, and-right, and-both}
+use Rattle.rules.proofs.Pick.{split, and-left, and-both}
 use Rattle.rules.proofs.Bounds.{pod-in, in-pod}
+use Rattle.rules.proofs.Inside.{off-closed, off-still}
 use Rattle.rules.proofs.Shutdown.{offPod, shuts-fits, shuts-step}
 use Rattle.rules.proofs.Twins.{world}
 use Rattle.rules.proofs.Sleepers.{Open, Hidden, sleeping, Sleepers, sleepers, tables-same, fresh-sound, sleep-tells}
 
 -- ---- a sound pod that sleeps has no exchange and no transfer open
-
-closed-is : (x : Exchange) → isClosed x ≡ true → x ≡ exchange.Closed
-closed-is exchange.Closed h = refl
-closed-is exchange.Status h = absurd (false≢true h)
-closed-is exchange.Read h = absurd (false≢true h)
-closed-is (exchange.Receive s) h = absurd (false≢true h)
-
-idle-is : (t : Transfer) → isIdle t ≡ true → t ≡ Idle
-idle-is Idle h = refl
-idle-is Address h = absurd (false≢true h)
-idle-is (Load t n k) h = absurd (false≢true h)
-idle-is (Read t n k at) h = absurd (false≢true h)
 
 record Resting (p : Pod) : Type 0 where
   off : p .initialised ≡ false
@@ -45,12 +32,7 @@ record Resting (p : Pod) : Type 0 where
   transfer : p .words .transfer ≡ Idle
 
 resting : (p : Pod) → soundPod p ≡ true → p .initialised ≡ false → Resting p
-unfolding restful
-resting p h e =
-    let a = isClosed (p .exchange) in
-    let b = isIdle (p .words .transfer) in
-    let both : (a && b) ≡ true = simp e at (pod-in p h .rest) in
-    record { off = e; exchange = closed-is (p .exchange) (and-left a b both); transfer = idle-is (p .words .transfer) (and-right a b both) }
+resting p h e = record { off = e; exchange = off-closed p (pod-in p h) e; transfer = off-still p (pod-in p h) e }
 
 -- ---- so it is what it shows and what it hides
 

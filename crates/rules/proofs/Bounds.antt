@@ -1,7 +1,7 @@
 -- The bounds of the state as facts, tied to the test once.
 -- Assumes nothing.
-use mathlib.Core.Path.{_≡_, refl}
-use mathlib.Core.Bool.{Bool, true, _&&_}
+use mathlib.Core.Path.{_≡_}
+use mathlib.Core.Bool.{true, _&&_}
 use Rattle.blocks.specs.declared.Store.the-variants.{Priority, Ordinary}
 use Rattle.blocks.specs.Stores.{capacityOf, soundRing}
 use Rattle.packets.specs.Commands.{fieldsBounded}
@@ -10,7 +10,7 @@ use Rattle.tables.specs.Bounds.{soundOf as soundWords}
 use Rattle.pipe.specs.Input.{soundOf as soundInput}
 use Rattle.rules.specs.declared.Pod.{Pod}
 use Rattle.rules.specs.State.{restful, soundPod}
-use Rattle.rules.proofs.Pick.{and-left, and-right, and-both}
+use Rattle.rules.proofs.Pick.{and-left, and-right}
 
 -- the bounds, one by one
 pub record PodIn (p : Pod) : Type 0 where

@@ -1,6 +1,6 @@
 -- Demand 2: "Checks in this order": what a packet that is not refused is answered, and that an error answer changes nothing.
 -- Assumes nothing.
-use Prim.Native.Nat.{ℕ, zero, suc, _*_, _≤_, _<_}
+use Prim.Native.Nat.{ℕ, zero, suc, _*_, _≤_}
 use native.Mathlib.Nat.{zero-add}
 use native.Mathlib.Omega.{arith}
 use mathlib.Core.Path.{_≡_, refl, sym, ap, _∙_}
@@ -11,7 +11,6 @@ use lib.Dec.{ltb, eqb}
 use lib.IntN.{ℤ}
 use lib.ListN.{length, take, drop}
 use lib.Seq.{sets, sets-eq, take-at, drop-at}
-use borrow.Author.Tests.{eqb-false}
 use Rattle.blocks.specs.declared.Store.the-variants.{Priority, Ordinary}
 use Rattle.blocks.proofs.Laws.{oldest-whole}
 use Rattle.packets.specs.declared.Command.{Command}
@@ -27,15 +26,15 @@ use Rattle.params.proofs.Laws.{missing-length}
 use Rattle.rules.specs.declared.Pod.{Pod}
 use Rattle.rules.specs.declared.Obeyed.{Obeyed}
 use Rattle.rules.specs.Obey.{failed, shut, isInitialise, initialiseRule, statusRule, updateRule, writeRule, readBy, readRule, receiveRule, shutdownRule, ruleOf, obeyOf, reportOf}
-use Rattle.rules.specs.Refusals.{Said, refused, done, bytes, word}
+use Rattle.rules.specs.Refusals.{bytes}
 use Rattle.rules.specs.Calls.{heardBy, heardOf, replyBytes, spokenBytes, answeredWith, answeredBy}
-use Rattle.rules.specs.World.{World, packet, Stepped, withPod, byPacketed, isRefused, step}
-use Rattle.rules.specs.Checks.{early, outside, noneWaits, noneRemains, checkOf, answered, AnswersCommand, Answers, answeredNine, errored}
+use Rattle.rules.specs.World.{World, packet, Stepped, withPod, byPacketed, step, answering}
+use Rattle.rules.specs.Checks.{early, outside, noneWaits, noneRemains, checkOf, AnswersCommand, Answers, errored}
 use Rattle.rules.specs.Demands.{PacketAnswered, ErrorUnchanged}
-use Rattle.rules.proofs.Pick.{and-false}
+use Rattle.rules.proofs.Pick.{and-false, over-none}
 use Rattle.rules.proofs.Bounds.{PodIn, pod-in}
 use Rattle.rules.proofs.Gates.{size}
-use Rattle.rules.proofs.Succeeded.{second-shown}
+use Rattle.rules.proofs.Succeeded.{answer-not-refused, second-shown}
 use Rattle.rules.proofs.Packet.{PacketFits, packet-fits, packet-answered}
 
 -- an answer without error to a command: of the packet table's length
@@ -76,9 +75,6 @@ early-is c p = rw (code-90 c) (neither (p .initialised) (isInitialise c))
 -- checks 8 and 9
 laterOf : Command → Pod → ℕ
 laterOf c p = cond (outside c (p .params)) 0x39 (cond (noneWaits c p) 0x3A (cond (noneRemains c p) 0x3B 0))
-
-over-none : {n : ℕ} → eqb n 0 ≡ false → 0 < n
-over-none {n} e = let some = eqb-false n 0 e in omega arith
 
 -- what becomes of a command of a pod, with the error that it gets and what the stores hold
 abbrev Becomes : Pod → List ℕ → List ℕ → Command → ℕ → Obeyed → Type 0
@@ -151,7 +147,7 @@ module _ (l room : List ℕ) (n : ℕ) (long : length l ≡ n) (fits : length l 
   rest-kept : drop n (sets room 0 l) ≡ drop n room
   rest-kept = rw in-room (drop-at l (drop (length l) room) n long ∙ ap (λ (k : ℕ). drop k room) long)
 
-fine-answers : (c : Command) (room l : List ℕ) → 260 ≤ length room → Fine c l → AnswersCommand c 0 room (answered room l)
+fine-answers : (c : Command) (room l : List ℕ) → 260 ≤ length room → Fine c l → AnswersCommand c 0 room (answering room l)
 fine-answers c room l wide h =
     let n = rowOf c .answer in
     let fits : length l ≤ length room = omega (arith, wide, short-answers c, h .long) in
@@ -169,7 +165,7 @@ module _ (w : World) (room : List ℕ) (h : PacketFits room w) where
       (size Priority (w .priority) (h .priority)) (size Ordinary (w .ordinary) (h .ordinary)) c
 
   told-by : (c : Command) (n : ℕ) (y : Obeyed) → Becomes (w .pod) (w .priority) (w .ordinary) c n y
-      → AnswersCommand c n room (answered room (replyBytes (rowOf c .code) (y .reply) (y .pod) (w .priority) (w .ordinary)))
+      → AnswersCommand c n room (answering room (replyBytes (rowOf c .code) (y .reply) (y .pod) (w .priority) (w .ordinary)))
   unfolding replyBytes
   told-by c zero y f = fine-answers c room _ (h .room) f
   told-by c (suc n) y f = rw f
@@ -190,14 +186,8 @@ packet-answers w b room h =
 
 -- ---- an error answer
 
-nine-not-refused : (s : Said) (l : List ℕ) → answeredNine s l ≡ true → isRefused s ≡ false
-nine-not-refused (refused n) l h = absurd (false≢true h)
-nine-not-refused done l h = refl
-nine-not-refused (bytes n) l h = refl
-nine-not-refused (word x) l h = refl
-
 -- an answer without error is not one
-fine-unerred : (c : Command) (room l : List ℕ) → 260 ≤ length room → Fine c l → errored (answered room l) ≡ false
+fine-unerred : (c : Command) (room l : List ℕ) → 260 ≤ length room → Fine c l → errored (answering room l) ≡ false
 unfolding errored
 fine-unerred c room l wide h = rw (h .is, second-shown room (rowOf c .code) 0x01 (h .body) wide, and-false (ltb 0 (length (answerOf (rowOf c .code) 0x01 (h .body)))))
 
@@ -223,6 +213,6 @@ pub error-unchanged : ErrorUnchanged
 unfolding errored
 error-unchanged w b room e =
     let s = step w (packet b room) in
-    let fits = packet-fits w b room (nine-not-refused (s .told .said) (s .told .bytes) e) in
+    let fits = packet-fits w b room (answer-not-refused 0x09 (s .told .said) (s .told .bytes) e) in
     let so = packet-answered w b room fits in
     rw so (parsed-closes w room fits (readOf b) (rw so at e))

@@ -24,7 +24,7 @@ use Rattle.rules.specs.declared.Pod.{Pod}
 use Rattle.rules.specs.State.{withRing, withFields, withRemaining, ringOf, remainingOf}
 use Rattle.rules.specs.Obey.{matches, dropFrom, settled, acknowledgedOf}
 use Rattle.rules.specs.Calls.{Heard, heard, silent}
-use Rattle.rules.specs.History.{exchangeBy, isReceive, receiveCode, asksInitialise, acknowledged, writtenBy}
+use Rattle.rules.specs.History.{exchangeBy, isReceive, receiveCode, asksFor, acknowledged, writtenBy}
 use Rattle.rules.specs.Replies.{takenBy, lessBy, wakesBy, marksBy}
 use Rattle.rules.proofs.Pick.{by-test, split, and-false}
 use Rattle.rules.proofs.Spoken.{spokenFine}
@@ -64,18 +64,18 @@ pub record Fares (r : Parsed) (p : Pod) (h : Heard) : Type 0 where
   -- so are the blocks that wait
   pub blocks : OpenWaits p → (s : Store) (l m : List ℕ)
       → blocksOf s (h .pod) l m
-      ≡ cond (asksInitialise r && spokenFine (h .spoken)) [] (cond (acknowledged s r (p .exchange)) (drop 1 (blocksOf s p l m)) (blocksOf s p l m))
+      ≡ cond (asksFor 0x90 r && spokenFine (h .spoken)) [] (cond (acknowledged s r (p .exchange)) (drop 1 (blocksOf s p l m)) (blocksOf s p l m))
   -- the timeouts
-  pub timeouts : h .pod .pipe .timeouts ≡ cond (asksInitialise r && spokenFine (h .spoken)) 0 (p .pipe .timeouts)
+  pub timeouts : h .pod .pipe .timeouts ≡ cond (asksFor 0x90 r && spokenFine (h .spoken)) 0 (p .pipe .timeouts)
   -- the parameters
   pub values : (id : ℕ) → isId id ≡ true
       → valueAt (h .pod .params) id
-      ≡ cond (asksInitialise r && spokenFine (h .spoken)) (rowOf id .start)
+      ≡ cond (asksFor 0x90 r && spokenFine (h .spoken)) (rowOf id .start)
       (cond (spokenFine (h .spoken)) (writtenBy id r (valueAt (p .params) id)) (valueAt (p .params) id))
   -- the marks of those written
   pub written : Arrays p → (id : ℕ) → isId id ≡ true
       → marked (h .pod .params) id
-      ≡ cond (asksInitialise r && spokenFine (h .spoken)) false
+      ≡ cond (asksFor 0x90 r && spokenFine (h .spoken)) false
       (cond (spokenFine (h .spoken)) (marksBy id r (marked (p .params) id)) (marked (p .params) id))
   -- the fields
   pub fields : OpenWaits p

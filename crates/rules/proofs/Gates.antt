@@ -1,21 +1,20 @@
 -- What is known behind a call's refusals, and in front of them.
 -- Assumes nothing.
-use Prim.Native.Nat.{ℕ, _*_, _<_, _≤_}
+use Prim.Native.Nat.{ℕ, _*_, _<_}
 use native.Mathlib.Omega.{arith}
-use mathlib.Core.Path.{_≡_, refl, sym, ap, _∙_}
-use mathlib.Core.Bool.{Bool, true, false, not, cond, _&&_}
+use mathlib.Core.Path.{_≡_}
+use mathlib.Core.Bool.{true, false}
 use mathlib.Core.List.{List, [], _∷_}
 use lib.ListN.{length}
-use lib.Dec.{ltb, leb, eqb}
-use borrow.Author.Tests.{ltb-false, leb-false, eqb-true, eqb-false, eq-eqb, not-false}
+use lib.Dec.{eqb}
+use borrow.Author.Tests.{leb-false, eqb-true, eq-eqb, not-false}
 use Rattle.blocks.specs.declared.Store.{Store}
 use Rattle.blocks.specs.declared.Store.the-variants.{Priority, Ordinary}
 use Rattle.blocks.specs.Stores.{capacityOf}
-use Rattle.tables.specs.Tables.{Three}
 use Rattle.rules.specs.declared.Pod.{Pod}
 use Rattle.rules.specs.State.{ringOf, soundPod}
-use Rattle.rules.specs.Refusals.{Row, row, lowest, storeSized, tablesSized, roomRow, allRow, stateRow, blockRow, asleepRow, fullRow}
-use Rattle.rules.proofs.Pick.{split, and-left, and-right}
+use Rattle.rules.specs.Refusals.{Row, lowest, storeSized, stateRow, blockRow, asleepRow, fullRow}
+use Rattle.rules.proofs.Lowest.{first-clear, rest-clear}
 
 -- where no row holds, the first does not, and none of the others
 pub record Passed (r : Row) (rs : List Row) : Type 0 where
@@ -23,11 +22,10 @@ pub record Passed (r : Row) (rs : List Row) : Type 0 where
   pub there : eqb (lowest rs) 0 ≡ true
 
 pub passed : (r : Row) (rs : List Row) → 0 < r .number → eqb (lowest (r ∷ rs)) 0 ≡ true → Passed r rs
-unfolding lowest
 passed r rs z h =
-    split (r .holds)
-    (λ e. absurd (omega (arith, eqb-true (r .number) 0 (simp e at h))))
-    (λ e. record { here = e; there = simp e at h })
+    let none = eqb-true _ _ h in
+    let first = first-clear r rs z none in
+    record { here = first; there = eq-eqb _ _ (rest-clear r rs first none) }
 
 -- a store is of its size as its length says
 pub sized : (s : Store) (l : List ℕ) → length l ≡ capacityOf s * 256 → storeSized s l ≡ true
@@ -39,33 +37,6 @@ pub size : (s : Store) (l : List ℕ) → storeSized s l ≡ true → length l �
 unfolding storeSized
 size Priority l h = eqb-true (length l) 4096 h
 size Ordinary l h = eqb-true (length l) 32768 h
-
--- a packet call that is not refused
-pub record PacketFits (r a o : List ℕ) (t : Three) (p : Pod) : Type 0 where
-  pub room : 260 ≤ length r
-  pub priority : length a ≡ 16 * 256
-  pub ordinary : length o ≡ 128 * 256
-  pub tables : tablesSized t ≡ true
-  pub sound : soundPod p ≡ true
-
-pub packet-fits : (room a o : List ℕ) (t : Three) (p : Pod)
-    → eqb (lowest (roomRow room ∷ allRow a o t ∷ stateRow p ∷ [])) 0 ≡ true → PacketFits room a o t p
-packet-fits room a o t p h =
-    let g₁ = passed (roomRow room) (allRow a o t ∷ stateRow p ∷ []) (omega arith) h in
-    let g₂ = passed (allRow a o t) (stateRow p ∷ []) (omega arith) (g₁ .there) in
-    let g₃ = passed (stateRow p) [] (omega arith) (g₂ .there) in
-    let x = storeSized Priority a in
-    let y = storeSized Ordinary o in
-    let z = tablesSized t in
-    let all : (x && (y && z)) ≡ true = not-false (x && (y && z)) (g₂ .here) in
-    let rest : (y && z) ≡ true = and-right x (y && z) all in
-    record {
-      room = ltb-false (length room) 260 (g₁ .here);
-      priority = size Priority a (and-left x (y && z) all);
-      ordinary = size Ordinary o (and-left y z rest);
-      tables = and-right y z rest;
-      sound = not-false (soundPod p) (g₃ .here);
-    }
 
 -- a put, its store being of its size, that is not refused
 pub record PutFits (s : Store) (b : List ℕ) (p : Pod) : Type 0 where

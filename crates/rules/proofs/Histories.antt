@@ -16,7 +16,7 @@ use Rattle.rules.specs.declared.Exchange.the-variants.{Receive}
 use Rattle.rules.specs.declared.Pod.{Pod}
 use Rattle.rules.specs.State.{ringOf, remainingOf, freshPod}
 use Rattle.rules.specs.Refusals.{lowest, tablesSized, tablesRow}
-use Rattle.rules.specs.Calls.{Powered, powerCall, says}
+use Rattle.rules.specs.Calls.{Powered, powerCall}
 use Rattle.rules.specs.World.{World, Call, power, told, step, final, storeIn, byPowered, powered}
 use Rattle.rules.specs.History.{historyOf, Waiting, waitingAfter, waitingFrom, nothingWaits, timeoutsFrom}
 use Rattle.rules.specs.Demands.{BlocksAreHistory, TimeoutsAreHistory}

@@ -1,9 +1,8 @@
 -- A pod within its bounds, with one part changed.
 -- Assumes nothing.
-use Prim.Native.Nat.{_-_}
 use native.Mathlib.Omega.{arith}
 use mathlib.Core.Path.{_≡_, refl}
-use mathlib.Core.Bool.{Bool, true, false, not, _&&_}
+use mathlib.Core.Bool.{Bool, true, false, _&&_}
 use Rattle.blocks.specs.declared.Store.{Store}
 use Rattle.blocks.specs.declared.Store.the-variants.{Priority, Ordinary}
 use Rattle.blocks.specs.declared.Ring.{Ring}
@@ -28,7 +27,6 @@ use Rattle.rules.specs.declared.Exchange.the-variants.{Closed, Status, R
 use Rattle.rules.specs.declared.Pod.{Pod}
 use Rattle.rules.specs.State.{withWords, withRing, withPipe, withExchange, withFields, withParams, withInitialised, ringOf, isClosed, isIdle, freshFields, freshPod, restful}
 use Rattle.rules.specs.Obey.{shut}
-use Rattle.rules.specs.World.{power}
 use Rattle.rules.proofs.Pick.{split, and-left, and-right, or-true}
 use Rattle.rules.proofs.Bounds.{PodIn}
 

@@ -19,8 +19,8 @@ use Rattle.rules.specs.declared.Exchange.{Exchange}
 use Rattle.rules.specs.declared.Pod.{Pod}
 use Rattle.rules.specs.State.{withWords, withPipe}
 use Rattle.rules.specs.Refusals.{refused, bytes, tablesSized}
-use Rattle.rules.specs.World.{World, Call, power, packet, deadline, put, command, dataIn, dataOut, status, samples, byte, timeout, Told, told, Stepped, stepped, withTables, step}
-use Rattle.rules.specs.History.{succeeded, exchangeAfter, asksInitialise, begins, blocksBy, shortBy, valueBy}
+use Rattle.rules.specs.World.{World, Call, power, packet, deadline, put, command, dataIn, dataOut, status, samples, byte, timeout, Told, told, Stepped, stepped, withTables}
+use Rattle.rules.specs.History.{succeeded, exchangeAfter, asksFor, begins, blocksBy, shortBy, valueBy}
 use Rattle.rules.specs.Replies.{fieldsBy, awakeBy, markBy}
 use Rattle.rules.proofs.Bounds.{PodIn}
 use Rattle.rules.proofs.Pick.{and-false}
@@ -108,7 +108,7 @@ refused-quiet : (c : Call) (n : ℕ) (l : List ℕ) → shortBy c (told (refused
 unfolding exchangeAfter begins blocksBy valueBy fieldsBy awakeBy markBy succeeded
 refused-quiet power n l h = record { exchange = λ x. refl; begins = refl; blocks = λ s x q. refl; short = h; value = λ id v. refl; mark = λ id m. refl; fields = λ x f. refl; awake = λ a. refl }
 refused-quiet (packet b room) n l h =
-    record { exchange = λ x. refl; begins = and-false (asksInitialise (readOf b)); blocks = λ s x q. refl; short = h; value = λ id v. refl; mark = λ id m. refl; fields = λ x f. refl; awake = λ a. refl }
+    record { exchange = λ x. refl; begins = and-false (asksFor 0x90 (readOf b)); blocks = λ s x q. refl; short = h; value = λ id v. refl; mark = λ id m. refl; fields = λ x f. refl; awake = λ a. refl }
 refused-quiet deadline n l h = record { exchange = λ x. refl; begins = refl; blocks = λ s x q. refl; short = h; value = λ id v. refl; mark = λ id m. refl; fields = λ x f. refl; awake = λ a. refl }
 refused-quiet (put r b) n l h = record { exchange = λ x. refl; begins = refl; blocks = λ s x q. refl; short = h; value = λ id v. refl; mark = λ id m. refl; fields = λ x f. refl; awake = λ a. refl }
 refused-quiet (command y) n l h = passes (command y) (told (refused n) l) tt

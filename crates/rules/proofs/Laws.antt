@@ -16,7 +16,7 @@ use Rattle.blocks.proofs.Laws.{put-counts, put-length, put-appends}
 use Rattle.packets.specs.declared.Fields.{Fields}
 use Rattle.packets.specs.Reading.{readOf}
 use Rattle.tables.specs.declared.Words.{Words}
-use Rattle.tables.specs.Tables.{Three, starts, sizedOf}
+use Rattle.tables.specs.Tables.{Three, starts}
 use Rattle.tables.specs.Port.{tabled, commandOf, dataInOf, dataOutOf, statusOf}
 use Rattle.tables.proofs.Kept.{starts-sized, command-sized, data-in-sized, command-load, data-in-load, data-out-load}
 use Rattle.tables.proofs.Laws.{status-clears}
@@ -33,9 +33,10 @@ use Rattle.rules.specs.Refusals.{done, bytes, lowest, storeSized, tables
 use Rattle.rules.specs.Calls.{Outcome, Powered, powerCall, Heard, heardOf, answeredWith, answeredBy, Packeted, packetCall, deadlineCall, Put, putCall, Worded, commandCall, dataInCall, dataOutCall, statusCall, samplesCall, Piping, passed as passing, byteCall, timeoutCall}
 use Rattle.rules.specs.World.{World, Call, power, packet, deadline, put, command, dataIn, dataOut, status, samples, byte, timeout, told, stepped, withPod, withTables, withStore, storeIn, byOutcome, byWorded, byPacketed, byPut, byPiping, byPowered, step}
 use Rattle.rules.specs.Replies.{fieldsBy, awakeBy, markBy}
-use Rattle.rules.specs.History.{succeeded, exchangeAfter, sameStore, asksInitialise, begins, blocksBy, shortBy, valueBy}
+use Rattle.rules.specs.History.{succeeded, exchangeAfter, sameStore, asksFor, begins, blocksBy, shortBy, valueBy}
 use Rattle.rules.proofs.Pick.{by-test, split}
-use Rattle.rules.proofs.Gates.{passed, size, packet-fits, PutFits, put-fits}
+use Rattle.rules.proofs.Gates.{passed, size, PutFits, put-fits}
+use Rattle.rules.proofs.Packet.{clear-fits}
 use Rattle.rules.proofs.Spoken.{spokenFine, spoken-fine}
 use Rattle.rules.proofs.Fares.{Waits, blocksBoth, Fares}
 use Rattle.rules.proofs.Obeying.{fares, no-blocks, fresh-arrays, start-value, start-unmarked}
@@ -48,10 +49,6 @@ more-wait Status f a o c d h k e = tt
 more-wait Read f a o c d h k e = tt
 more-wait (Receive Priority) f a o c d h k e = (omega (arith, e .0), e .1)
 more-wait (Receive Ordinary) f a o c d h k e = (omega (arith, e .0), e .1)
-
-starts-right : tablesSized starts ≡ true
-unfolding tablesSized sizedOf
-starts-right = starts-sized
 
 -- ---- each call, where it is answered
 
@@ -71,7 +68,7 @@ module _ (w : World) (g : Good (w .pod)) where
         arrays = fresh-arrays;
         priority = refl;
         ordinary = refl;
-        tables = λ k. starts-right;
+        tables = λ k. starts-sized;
       }
 
   deadline-law : Lawful w deadline (stepped (told done []) (withPod (shut (w .pod)) w))
@@ -155,14 +152,14 @@ module _ (w : World) (g : Good (w .pod)) where
         arrays = f .arrays (g .arrays);
         priority = refl;
         ordinary = refl;
-        tables = λ k. by-test (λ (t : Three). tablesSized t ≡ true) (h .restart) (λ e. starts-right) (λ e. k);
+        tables = λ k. by-test (λ (t : Three). tablesSized t ≡ true) (h .restart) (λ e. starts-sized) (λ e. k);
       }
     where
       counted : (n : ℕ) → w .pod .pipe .timeouts ≡ min n 15
-          → h .pod .pipe .timeouts ≡ min (cond (asksInitialise (readOf b) && spokenFine (h .spoken)) 0 (n + 0)) 15
+          → h .pod .pipe .timeouts ≡ min (cond (asksFor 0x90 (readOf b) && spokenFine (h .spoken)) 0 (n + 0)) 15
       counted n e =
           f .timeouts
-          ∙ split (asksInitialise (readOf b) && spokenFine (h .spoken)) (λ y. rw y) (λ y. rw y (omega arith))
+          ∙ split (asksFor 0x90 (readOf b) && spokenFine (h .spoken)) (λ y. rw y) (λ y. rw y (omega arith))
 
   timeout-law : Lawful w timeout (byPiping (passing (timeoutOf (w .pod .pipe)) (w .pod)) w)
   unfolding exchangeAfter begins blocksBy shortBy valueBy fieldsBy awakeBy markBy emptyInput countUp
@@ -199,15 +196,6 @@ module _ (w : World) (g : Good (w .pod)) where
       (byte-cases (λ (q : Piped). q .input .timeouts ≡ i .timeouts) i b (λ l. refl) (λ l. refl))
       (g .arrays .load) (whole-byte b whole .long) (λ k. k)
 
-  -- a command word and a data word written keep the tables' sizes
-  commanded : (x : ℕ) → tablesSized (w .tables) ≡ true → tablesSized (commandOf (w .pod .initialised) x (tabled (w .pod .words) (w .tables)) .tables) ≡ true
-  unfolding tablesSized sizedOf
-  commanded x k = command-sized (w .pod .initialised) x (tabled (w .pod .words) (w .tables)) k
-
-  taken : (x : ℕ) → tablesSized (w .tables) ≡ true → tablesSized (dataInOf x (tabled (w .pod .words) (w .tables)) .tables) ≡ true
-  unfolding tablesSized sizedOf
-  taken x k = data-in-sized x (tabled (w .pod .words) (w .tables)) k
-
   -- a store lent back as it was
   stored-back : (s : Store) → withStore s (storeIn s w) (w .pod) w ≡ w
   stored-back Priority = refl
@@ -226,7 +214,7 @@ module _ (w : World) (g : Good (w .pod)) where
       by-test (λ (o : Packeted). Lawful w (packet b room) (byPacketed o w))
       (eqb (lowest (roomRow room ∷ allRow (w .priority) (w .ordinary) (w .tables) ∷ stateRow p ∷ [])) 0)
       (λ e.
-      let fits = packet-fits room (w .priority) (w .ordinary) (w .tables) p e in
+      let fits = clear-fits w room e in
       packet-law b room h _ _ (fares (readOf b) p (g .inside))
       (spoken-fine (h .pod) (w .priority) (w .ordinary) room (fits .room) (h .spoken)))
       (λ e. stays w g (packet b room) _ room refl)
@@ -248,7 +236,7 @@ module _ (w : World) (g : Good (w .pod)) where
       (λ e.
       still w g (command x) _ (y .words) (w .pod .pipe) (y .tables) (passes (command x) _ tt) refl
       (command-load (w .pod .initialised) x (tabled (w .pod .words) (w .tables)) ∙ g .arrays .load) (g .arrays .pipe)
-      (commanded x))
+      (command-sized (w .pod .initialised) x (tabled (w .pod .words) (w .tables))))
       (λ e. stays w g (command x) _ [] refl)
   law (dataIn x) =
       let y = dataInOf x (tabled (w .pod .words) (w .tables)) in
@@ -256,7 +244,7 @@ module _ (w : World) (g : Good (w .pod)) where
       (λ e.
       still w g (dataIn x) _ (y .words) (w .pod .pipe) (y .tables) (passes (dataIn x) _ tt) refl
       (data-in-load x (tabled (w .pod .words) (w .tables)) ∙ g .arrays .load) (g .arrays .pipe)
-      (taken x))
+      (data-in-sized x (tabled (w .pod .words) (w .tables))))
       (λ e. stays w g (dataIn x) _ [] refl)
   law dataOut =
       let y = dataOutOf (tabled (w .pod .words) (w .tables)) in

@@ -13,13 +13,13 @@ pub mod Sound
 pub mod Damage
 pub mod Written
 pub mod Restarts
-pub mod Loads
 pub mod Spoken
 pub mod Values
 pub mod Fares
 pub mod Laws
 pub mod Lawful
 pub mod Histories
+pub mod Runs
 pub mod Twins
 pub mod NoTrace
 pub mod Shutdown
@@ -29,4 +29,9 @@ pub mod Examples
 pub mod NotEmpty
 pub mod Checked
 pub mod TablesOnly
+pub mod Holding
+pub mod Between
+pub mod Gathering
+pub mod Unseen
+pub mod Loads
 pub mod Shows

@@ -18,11 +18,12 @@ use Rattle.rules.proofs.Gates.{size}
 use Rattle.rules.proofs.Initialise.{fit-accepts, accepts-fits, accepts-bounded, accepts-step}
 use Rattle.rules.proofs.Packet.{PacketFits}
 use Rattle.rules.proofs.Sleepers.{fresh-sound}
-use Rattle.rules.proofs.Twins.{emptied, twin, Same, twin-run}
+use Rattle.rules.proofs.Runs.{Same}
+use Rattle.rules.proofs.Twins.{emptied, Twin, twin, twin-run}
 
 -- the same Initialise, accepted in two worlds, tells the same and makes them twins
 begun-twins : (f : Fields) (b room : List ℕ) (v w : World) → Accepts f b room v → Accepts f b room w
-    → Same (step v (packet b room)) (step w (packet b room))
+    → Same Twin (step v (packet b room)) (step w (packet b room))
 unfolding initialisedPod freshPod
 begun-twins f b room v w x y =
     let h = accepts-fits f b room v x in
@@ -30,7 +31,7 @@ begun-twins f b room v w x y =
     rw (accepts-step f b room v x, accepts-step f b room w y)
     (record {
       points = refl;
-      twins = twin (initialisedPod f) starts (v .priority) (w .priority) (v .ordinary) (w .ordinary)
+      worlds = twin (initialisedPod f) starts (v .priority) (w .priority) (v .ordinary) (w .ordinary)
           (record {
             priority = emptied Priority (v .priority) (w .priority) (size Priority (v .priority) (h .priority)) (size Priority (w .priority) (k .priority));
             ordinary = emptied Ordinary (v .ordinary) (w .ordinary) (size Ordinary (v .ordinary) (h .ordinary)) (size Ordinary (w .ordinary) (k .ordinary));
@@ -41,7 +42,7 @@ pub no-trace : NoTrace
 unfolding run
 no-trace f b room v w x y cs =
     let s = begun-twins f b room v w x y in
-    ap₂ (λ (e : Point) (l : List Point). e ∷ l) (s .points) (twin-run (s .twins) cs)
+    ap₂ (λ (e : Point) (l : List Point). e ∷ l) (s .points) (twin-run (s .worlds) cs)
 
 -- a pod just powered accepts what any world accepts
 powered-fits : (room : List ℕ) → 260 ≤ length room → PacketFits room (powered (replicate 4096 0) (replicate 32768 0) starts)

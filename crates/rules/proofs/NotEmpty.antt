@@ -10,6 +10,7 @@ use lib.ListN.{getD, replicate}
 use Rattle.blocks.specs.declared.Ring.{Ring}
 use Rattle.blocks.specs.declared.Store.the-variants.{Priority}
 use Rattle.params.specs.declared.Params.{Params}
+use Rattle.packets.specs.declared.Fields.{Fields}
 use Rattle.packets.specs.declared.Command.{Command}
 use Rattle.packets.specs.declared.Command.the-variants as command
 use Rattle.tables.specs.declared.Table.the-variants.{Five}
@@ -18,10 +19,11 @@ use Rattle.tables.specs.declared.Transfer.the-variants.{Load}
 use Rattle.tables.specs.Tables.{Three, three, numberOf as tables-numberOf, sizeOf, starts}
 use Rattle.rules.specs.State.{withRing, withPipe}
 use Rattle.rules.specs.Refusals.{Said, refused}
-use Rattle.rules.specs.World.{World, Call, packet as bring, put, command as order, samples, byte, Told, withPod, withTables, powered}
-use Rattle.rules.specs.History.{succeeded}
+use Rattle.rules.specs.World.{World, Call, power, packet as bring, deadline, put, command as word, dataIn, dataOut, status, samples, byte, timeout, Told, withPod, withTables, powered}
+use Rattle.rules.specs.History.{historyOf, succeeded}
 use Rattle.rules.specs.Pairs.{Accepts, ShutsDown, Near, Asleep}
-use Rattle.rules.specs.Demands.{Fit, damaged}
+use Rattle.rules.specs.Loads.{Fit, closes, leftOpen, wordsIn, opened}
+use Rattle.rules.specs.Demands.{damaged}
 use Rattle.rules.proofs.Asleep.{asleep-from-shutdown}
 use lib.Count.{ones}
 use Rattle.crc.specs.Crc.{poly, leaving, bitIn, bits, run, crcFrom, crcOf}
@@ -54,6 +56,10 @@ asks c = bring (packets-bytesOf c) (replicate 260 0)
 abbrev fresh : World
 fresh = powered (replicate 4096 0) (replicate 32768 0) starts
 
+-- fields out of their bounds
+abbrev unfit : Fields
+unfit = record { mode = 4; flags = 0; seconds = 0; milliseconds = 0; prioritylimit = 0; priorityremaining = 0; memorylimit = 0; memoryremaining = 0; poll = 1000 }
+
 -- a world whose span was narrowed, with a block put
 abbrev hired : World
 hired =
@@ -72,7 +78,14 @@ left w = step w (asks command.Shutdown) .world
 
 -- a load of four words to table 5, open
 abbrev loading : World
-loading = final justInitialised (order 0x0A04 ∷ [])
+loading = final justInitialised (word 0x0A04 ∷ [])
+
+-- its first three words with other calls in between: a packet answered, one damaged, one refused, an Initialise and a put not
+-- accepted, a put, the deadline, the status word, a byte and its timeout, samples
+abbrev mixed : List Call
+mixed =
+    asks command.Status ∷ dataIn 5 ∷ bring (0x91 ∷ []) (replicate 260 0) ∷ bring [] [] ∷ asks (command.Initialise unfit) ∷ dataIn 63
+    ∷ put Priority [] ∷ put Priority (replicate 256 7) ∷ deadline ∷ status ∷ byte 1 ∷ timeout ∷ samples 0 (replicate 128 0) ∷ dataIn 1 ∷ []
 
 -- too many timeouts; the same with no tables; the priority store full, of a pod that is initialised and of one that is not
 abbrev broken : World
@@ -114,6 +127,13 @@ pub record NotEmpty : Type 0 where
   pub order : heardOf (loading .pod .initialised) 0x0A04 ≡ Writing Five 4
   pub taken : rightOf (sizeOf Five) (tables-numberOf Five) 4 (5 ∷ 63 ∷ 1 ∷ 9 ∷ []) ≡ true
   pub not-taken : rightOf (sizeOf Five) (tables-numberOf Five) 4 (5 ∷ 64 ∷ 1 ∷ 9 ∷ []) ≡ false
+  -- many calls leave it open, and three of its words come in between
+  pub amid : leftOpen (historyOf (opened Five 4 justInitialised) mixed) ≡ true
+  pub three-words : wordsIn mixed ≡ 5 ∷ 63 ∷ 1 ∷ []
+  -- and each call that closes it does: power on, an Initialise, a Shutdown, a command word accepted and one not, a data word read
+  pub cut : map (λ (c : Call). closes c (step (final loading (dataIn 5 ∷ [])) c .told))
+      (power ∷ asks (command.Initialise freshFields) ∷ asks command.Shutdown ∷ word 0x8000 ∷ word 0x0000 ∷ dataOut ∷ [])
+      ≡ replicate 6 true
   -- a packet is damaged by its length, one by its CRC
   pub short : damaged (0x91 ∷ []) ≡ true
   pub wrong : damaged (0x91 ∷ 0x01 ∷ 0x00 ∷ 0x00 ∷ []) ≡ true
@@ -124,7 +144,7 @@ pub record NotEmpty : Type 0 where
       ≡ map refused (1 ∷ 2 ∷ 3 ∷ 4 ∷ 5 ∷ 6 ∷ 6 ∷ 7 ∷ [])
 
 pub not-empty : NotEmpty
-unfolding ones poly leaving bitIn bits run crcFrom crcOf bytesOf fold closed answerOf errorAnswer doneAnswer statusBody statusAnswer valueBody valueAnswer dataAnswer fieldBytes bodyOf packets-bytesOf fieldsIn fieldsBounded findIn listedIn rowAt isCode placeOf rowOf fieldValues valuesOf saidOf highFirst numberOf numberAt signedOf unsignedOf crcRight acknowledges readOf isId inRows soundOf startOf allowed writeOf valueOf filter missingIds missingOf soundRing blocks-placeOf blockAt blocksFrom blocksIn oldestOf putRing putStore droppedRing soundPlaces soundTransfer tables-soundOf oddOnes partsOf orderOf heardOf startWords closeOf readFrom tables-readOf restartOf obeyOf tablesAfter commandOf wrongWay rightOf storedIn judgedOf loadOf takenBy dataInOf readWord readNext givenBy dataOutOf statusOf listed startTable held packet listOf emptyInput freshInput gathers byteOf countUp timeoutOf pipe-soundOf gatheringOf placed frame an03 an47 framesOf sampleAt sumOf averageOf sumsOf averagesOf boundedOf powerCall rules-heardOf replyBytes spokenBytes answeredWith answeredBy packetCall deadlineCall putCall commandCall dataInCall dataOutCall statusCall samplesCall byteCall timeoutCall initialisedPod initialiseRule statusRule updateRule writeRule readBy readRule receiveRule shutdownRule ruleOf rules-obeyOf matches dropFrom settled acknowledgedOf reportOf rules-numberOf rules-saidOf lowest storeSized tablesSized justInitialised freshFields freshPod restful soundPod step final rules-run succeeded
+unfolding ones poly leaving bitIn bits run crcFrom crcOf bytesOf fold closed answerOf errorAnswer doneAnswer statusBody statusAnswer valueBody valueAnswer dataAnswer fieldBytes bodyOf packets-bytesOf fieldsIn fieldsBounded findIn listedIn rowAt isCode placeOf rowOf fieldValues valuesOf saidOf highFirst numberOf numberAt signedOf unsignedOf crcRight acknowledges readOf isId inRows soundOf startOf allowed writeOf valueOf filter missingIds missingOf soundRing blocks-placeOf blockAt blocksFrom blocksIn oldestOf putRing putStore droppedRing soundPlaces soundTransfer tables-soundOf oddOnes partsOf orderOf heardOf startWords closeOf readFrom tables-readOf restartOf obeyOf tablesAfter commandOf wrongWay rightOf storedIn judgedOf loadOf takenBy dataInOf readWord readNext givenBy dataOutOf statusOf listed startTable held packet listOf emptyInput freshInput gathers byteOf countUp timeoutOf pipe-soundOf gatheringOf placed frame an03 an47 framesOf sampleAt sumOf averageOf sumsOf averagesOf boundedOf powerCall rules-heardOf replyBytes spokenBytes answeredWith answeredBy packetCall deadlineCall putCall commandCall dataInCall dataOutCall statusCall samplesCall byteCall timeoutCall initialisedPod initialiseRule statusRule updateRule writeRule readBy readRule receiveRule shutdownRule ruleOf rules-obeyOf matches dropFrom settled acknowledgedOf reportOf rules-numberOf rules-saidOf lowest storeSized tablesSized justInitialised freshFields freshPod restful soundPod step final rules-run succeeded historyOf closes leftOpen wordsIn
 not-empty =
     let nearby : Near busy other =
     record { initialised = refl; fields = refl; exchange = refl; error = refl; transfer = refl; places = refl; given = refl; pipe = refl; priority = refl; ordinary = refl; five = refl; six = refl; seven = refl } in
@@ -149,6 +169,9 @@ not-empty =
       order = refl;
       taken = refl;
       not-taken = refl;
+      amid = refl;
+      three-words = refl;
+      cut = refl;
       short = refl;
       wrong = refl;
       numbers = refl;

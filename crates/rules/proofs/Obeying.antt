@@ -19,7 +19,7 @@ use Rattle.packets.specs.declared.Command.{Command}
 use Rattle.packets.specs.declared.Command.the-variants as command
 use Rattle.packets.specs.declared.Parsed.{Parsed}
 use Rattle.packets.specs.declared.Parsed.the-variants.{Nothing, Error, Acknowledgement, Asked}
-use Rattle.packets.specs.Commands.{fieldsBounded, rowOf as commandRow}
+use Rattle.packets.specs.Commands.{fieldsBounded, placeOf, rowOf as commandRow}
 use Rattle.params.specs.declared.Params.{Params}
 use Rattle.params.specs.Rows.{rowOf}
 use Rattle.params.specs.Rules.{isId, valueAt, marked, startOf as startParams, soundOf as soundParams, writeOf, valueOf}
@@ -33,8 +33,8 @@ use Rattle.rules.specs.declared.Reply.the-variants.{Block}
 use Rattle.rules.specs.State.{withExchange, ringOf, remainingOf, freshPod}
 use Rattle.rules.specs.Obey.{obeyed, failed, shut, initialisedPod, initialiseRule, statusRule, updateRule, writeRule, readBy, readRule, receiveRule, shutdownRule, ruleOf, isInitialise, obeyOf}
 use Rattle.rules.specs.Calls.{heardBy, heardOf}
-use Rattle.rules.specs.History.{opens, exchangeBy, asksInitialise, receives, acknowledged}
-use Rattle.rules.proofs.Pick.{by-test, split, and-false}
+use Rattle.rules.specs.History.{opens, exchangeBy, asksFor, receives, acknowledged}
+use Rattle.rules.proofs.Pick.{by-test, split, and-false, over-none}
 use Rattle.rules.proofs.Bounds.{PodIn}
 use Rattle.rules.proofs.Fares.{Arrays, blocksBoth, Fares, acknowledged-fares}
 
@@ -46,7 +46,7 @@ By c p o = Fares (Asked c) p (heardBy (commandRow c .code) o)
 failed-fares : (c : Command) (n : ℕ) (p : Pod) → By c p (failed n (shut p))
 unfolding By exchangeBy acknowledged
 failed-fares c n p =
-    let no : (asksInitialise (Asked c) && false) ≡ false = and-false (asksInitialise (Asked c)) in
+    let no : (asksFor 0x90 (Asked c) && false) ≡ false = and-false (asksFor 0x90 (Asked c)) in
     record {
       exchange = refl;
       blocks = λ k s l m. rw no;
@@ -86,7 +86,7 @@ unfolding freshPod
 fresh-arrays = record { marks = rw start-marks; load = start-load; pipe = start-pipe }
 
 initialise-fares : (f : Fields) (p : Pod) → By (command.Initialise f) p (initialiseRule f (shut p))
-unfolding By initialiseRule initialisedPod freshPod exchangeBy opens acknowledged freshInput emptyInput
+unfolding By initialiseRule initialisedPod freshPod exchangeBy opens acknowledged freshInput emptyInput commandRow placeOf
 initialise-fares f p =
     by-test (By (command.Initialise f) p) (fieldsBounded f)
     (λ e. record {
@@ -103,7 +103,7 @@ initialise-fares f p =
     (λ e. failed-fares (command.Initialise f) 0x39 p)
 
 update-fares : (f : Fields) (p : Pod) → By (command.Update f) p (updateRule f (shut p))
-unfolding By updateRule exchangeBy opens acknowledged
+unfolding By updateRule exchangeBy opens acknowledged commandRow placeOf
 update-fares f p =
     split (fieldsBounded f)
     (λ e. rw (updateRule, e) (record { exchange = refl; blocks = λ k s l m. refl; timeouts = refl; values = λ id e. refl; written = λ a id e. refl; fields = λ k. refl; awake = refl; waits = λ k. tt; arrays = λ a. a }))
@@ -130,7 +130,7 @@ marks q k v l e id i =
     (λ s. rw s (other-mark q k v id (λ d. eqb-false k id s (sym d)) i))
 
 write-fares : (k : ℕ) (v : ℤ) (p : Pod) → soundParams (p .params) ≡ true → By (command.Write k v) p (writeRule k v (shut p))
-unfolding By writeRule exchangeBy opens acknowledged
+unfolding By writeRule exchangeBy opens acknowledged commandRow placeOf
 write-fares k v p h =
     by-test (By (command.Write k v) p) (writeOf (p .params) k v .taken)
     (λ e. record {
@@ -147,17 +147,14 @@ write-fares k v p h =
     (λ e. failed-fares (command.Write k v) 0x39 p)
 
 read-fares : (v : ℕ ⊎ ℤ) (id : ℕ) (p : Pod) → By (command.Read id) p (readBy v id (shut p))
-unfolding By readBy exchangeBy opens acknowledged
+unfolding By readBy exchangeBy opens acknowledged commandRow placeOf
 read-fares (inl n) id p = failed-fares (command.Read id) n p
 read-fares (inr v) id p =
     record { exchange = refl; blocks = λ k s l m. refl; timeouts = refl; values = λ id e. refl; written = λ a id e. refl; fields = λ k. refl; awake = refl; waits = λ k. tt; arrays = λ a. a }
 
-over-none : {n : ℕ} → eqb n 0 ≡ false → 0 < n
-over-none {n} e = let some = eqb-false n 0 e in omega arith
-
 opened-fares : (s : Store) (p : Pod) → 0 < ringOf s (shut p) .waiting → 0 < remainingOf s (p .fields)
     → By (receives s) p (obeyed (Block s) (withExchange (Receive s) (shut p)))
-unfolding By exchangeBy opens acknowledged
+unfolding By exchangeBy opens acknowledged commandRow placeOf
 opened-fares Priority p e f =
     record { exchange = refl; blocks = λ k s l m. refl; timeouts = refl; values = λ id e. refl; written = λ a id e. refl; fields = λ k. refl; awake = refl; waits = λ k. (e, f); arrays = λ a. a }
 opened-fares Ordinary p e f =
@@ -172,7 +169,7 @@ receive-fares s p =
     (λ f. opened-fares s p (over-none e) (over-none f)))
 
 rule-fares : (c : Command) (p : Pod) → PodIn p → By c p (ruleOf c (shut p))
-unfolding By ruleOf statusRule readRule shutdownRule closeOf exchangeBy opens acknowledged
+unfolding By ruleOf statusRule readRule shutdownRule closeOf exchangeBy opens acknowledged commandRow placeOf
 rule-fares (command.Initialise f) p h = initialise-fares f p
 rule-fares command.Status p h =
     record { exchange = refl; blocks = λ k s l m. refl; timeouts = refl; values = λ id e. refl; written = λ a id e. refl; fields = λ k. refl; awake = refl; waits = λ k. tt; arrays = λ a. a }

@@ -7,7 +7,7 @@ use mathlib.Core.Bool.{true, false, _&&_, false≢true}
 use mathlib.Core.List.{List, [], _∷_}
 use lib.Dec.{eqb}
 use lib.ListN.{length}
-use borrow.Author.Tests.{ltb-false, eqb-true, eq-eqb, le-ltb, not-false}
+use borrow.Author.Tests.{ltb-false, eq-eqb, le-ltb, not-false}
 use Rattle.blocks.specs.declared.Store.the-variants.{Priority, Ordinary}
 use Rattle.packets.specs.Reading.{readOf}
 use Rattle.rules.specs.State.{soundPod}
@@ -15,7 +15,7 @@ use Rattle.rules.specs.Refusals.{Row, roomRow, allRow, stateRow, lowest,
 use Rattle.rules.specs.Calls.{heardOf, answeredBy, packetCall}
 use Rattle.rules.specs.World.{World, packet, byPacketed, isRefused, step}
 use Rattle.rules.proofs.Pick.{split, and-left, and-right}
-use Rattle.rules.proofs.Lowest.{first-clear, rest-clear}
+use Rattle.rules.proofs.Gates.{passed}
 
 -- rows 1 to 3 do not hold of a packet call
 pub record PacketFits (r : List ℕ) (w : World) : Type 0 where
@@ -29,26 +29,24 @@ pub record PacketFits (r : List ℕ) (w : World) : Type 0 where
 abbrev packetRows : World → List ℕ → List Row
 packetRows w room = roomRow room ∷ allRow (w .priority) (w .ordinary) (w .tables) ∷ stateRow (w .pod) ∷ []
 
-clear-fits : (w : World) (room : List ℕ) → lowest (packetRows w room) ≡ 0 → PacketFits room w
+pub clear-fits : (w : World) (room : List ℕ) → eqb (lowest (packetRows w room)) 0 ≡ true → PacketFits room w
 clear-fits w room h =
-    let one = roomRow room in
     let two = allRow (w .priority) (w .ordinary) (w .tables) in
     let three = stateRow (w .pod) in
     let a = storeSized Priority (w .priority) in
     let b = storeSized Ordinary (w .ordinary) in
     let c = tablesSized (w .tables) in
-    let first = first-clear one (two ∷ three ∷ []) (omega arith) h in
-    let h₂ = rest-clear one (two ∷ three ∷ []) first h in
-    let second = first-clear two (three ∷ []) (omega arith) h₂ in
-    let h₃ = rest-clear two (three ∷ []) second h₂ in
-    let sizes : (a && (b && c)) ≡ true = not-false (a && (b && c)) second in
+    let g₁ = passed (roomRow room) (two ∷ three ∷ []) (omega arith) h in
+    let g₂ = passed two (three ∷ []) (omega arith) (g₁ .there) in
+    let g₃ = passed three [] (omega arith) (g₂ .there) in
+    let sizes : (a && (b && c)) ≡ true = not-false (a && (b && c)) (g₂ .here) in
     let rest : (b && c) ≡ true = and-right a (b && c) sizes in
     record {
-      room = ltb-false (length room) 260 first;
+      room = ltb-false (length room) 260 (g₁ .here);
       priority = and-left a (b && c) sizes;
       ordinary = and-left b c rest;
       tables = and-right b c rest;
-      sound = not-false (soundPod (w .pod)) (first-clear three [] (omega arith) h₃);
+      sound = not-false (soundPod (w .pod)) (g₃ .here);
     }
 
 fits-clear : (w : World) (room : List ℕ) → PacketFits room w → lowest (packetRows w room) ≡ 0
@@ -61,7 +59,7 @@ pub packet-fits : (w : World) (b room : List ℕ) → isRefused (step w (packet 
 unfolding step packetCall
 packet-fits w b room h =
     split (eqb (lowest (packetRows w room)) 0)
-    (λ e. clear-fits w room (eqb-true _ _ e))
+    (λ e. clear-fits w room e)
     (λ e. absurd (false≢true (sym (rw e at h))))
 
 -- and the call that has it is answered

@@ -1,39 +1,18 @@
 -- Tests, and the choice between two values.
 -- Assumes nothing.
-use mathlib.Core.Path.{_≡_, refl, sym}
-use mathlib.Core.Bool.{Bool, true, false, cond, _&&_, _||_, false≢true}
-
--- a fact of `cond b x y` from the fact of each branch, with the test's value in hand
-pub by-test {ℓ ℓ′} : {A : Type ℓ} (P : A → Type ℓ′) (b : Bool) {x y : A} → (b ≡ true → P x) → (b ≡ false → P y) → P (cond b x y)
-by-test P true f g = f refl
-by-test P false f g = g refl
-
--- by cases on a test
-pub split {ℓ} : {C : Type ℓ} (b : Bool) → (b ≡ true → C) → (b ≡ false → C) → C
-split true f g = f refl
-split false f g = g refl
-
--- both parts of a conjunction, and back
-pub and-left : (a b : Bool) → (a && b) ≡ true → a ≡ true
-and-left true b h = refl
-and-left false b h = h
-
-pub and-right : (a b : Bool) → (a && b) ≡ true → b ≡ true
-and-right true b h = h
-and-right false b h = absurd (false≢true h)
-
-pub and-both : {a b : Bool} → a ≡ true → b ≡ true → (a && b) ≡ true
-and-both {a} {b} h k = rw (h, k)
-
-pub or-true : (a : Bool) → (a || true) ≡ true
-or-true true = refl
-or-true false = refl
-
-pub and-false : (a : Bool) → (a && false) ≡ false
-and-false true = refl
-and-false false = refl
+use Prim.Native.Nat.{ℕ, _<_}
+use native.Mathlib.Omega.{arith}
+use mathlib.Core.Path.{_≡_, sym}
+use mathlib.Core.Bool.{Bool, true, false, _||_, false≢true}
+use lib.Dec.{eqb}
+use borrow.Author.Tests.{eqb-false}
+pub use Rattle.tables.proofs.Bool.{by-test, split, and-left, and-right, and-both, and-false, or-true, or-false}
 
 -- neither part of a disjunction that fails
 pub or-right : (a b : Bool) → (a || b) ≡ false → b ≡ false
 or-right true b h = absurd (false≢true (sym h))
 or-right false b h = h
+
+-- a number that is not 0
+pub over-none : {n : ℕ} → eqb n 0 ≡ false → 0 < n
+over-none {n} e = let some = eqb-false n 0 e in omega arith

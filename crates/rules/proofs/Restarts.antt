@@ -1,9 +1,8 @@
--- Which calls change the tables, and by what: for all but a data word written, the pod's state plays no part in it.
+-- Which packets put the tables to their starts.
 -- Assumes nothing.
 use Prim.Native.Nat.{ℕ}
 use mathlib.Core.Path.{_≡_, refl, sym}
-use mathlib.Core.Bool.{Bool, true, false, not, _||_, false≢true}
-use mathlib.Core.List.{List, [], _∷_}
+use mathlib.Core.Bool.{Bool, true, false, _||_, false≢true}
 use mathlib.Core.Logic.{_⊎_, inl, inr}
 use lib.Dec.{eqb}
 use lib.IntN.{ℤ}
@@ -14,17 +13,13 @@ use Rattle.packets.specs.declared.Command.the-variants as command
 use Rattle.packets.specs.declared.Parsed.{Parsed}
 use Rattle.packets.specs.declared.Parsed.the-variants.{Nothing, Error, Acknowledgement, Asked}
 use Rattle.packets.specs.Commands.{fieldsBounded}
-use Rattle.packets.specs.Reading.{readOf}
 use Rattle.params.specs.Rules.{writeOf, valueOf}
-use Rattle.tables.specs.Port.{commandOf}
 use Rattle.rules.specs.declared.Pod.{Pod}
 use Rattle.rules.specs.declared.Obeyed.{Obeyed}
-use Rattle.rules.specs.State.{ringOf, remainingOf, soundPod}
+use Rattle.rules.specs.State.{ringOf, remainingOf}
 use Rattle.rules.specs.Obey.{shut, initialiseRule, statusRule, updateRule, writeRule, readBy, readRule, receiveRule, shutdownRule, ruleOf, isInitialise, obeyOf}
-use Rattle.rules.specs.Refusals.{row, lowest, roomRow, allRow, tablesRow}
-use Rattle.rules.specs.Calls.{heardOf, answeredWith, answeredBy, packetCall, commandCall}
-use Rattle.rules.specs.World.{World, Call, power, packet, deadline, put, command as word, dataIn, dataOut, status, samples, byte, timeout, withPod, step}
-use Rattle.rules.proofs.Pick.{by-test, split, or-right}
+use Rattle.rules.specs.Calls.{heardOf}
+use Rattle.rules.proofs.Pick.{by-test, or-right}
 
 -- the tables go to their starts exactly at an Initialise whose fields are within their bounds, whatever the pod
 abbrev pub restarts : Parsed → Bool
@@ -87,37 +82,3 @@ heard-restarts (Asked c) p =
     by-test (Restart (restarts (Asked c))) (p .initialised || isInitialise c)
     (λ e. rule-restarts c (shut p))
     (λ e. sym (other-restarts c (or-right (p .initialised) (isInitialise c) e)))
-
--- ---- calls
-
-module _ (w : World) (q : Pod) (first : soundPod (w .pod) ≡ true) (second : soundPod q ≡ true) where
-  packet-tables : (b room : List ℕ) → step (withPod q w) (packet b room) .world .tables ≡ step w (packet b room) .world .tables
-  unfolding step packetCall answeredBy answeredWith
-  packet-tables b room =
-      rw (first, second)
-      (split (eqb (lowest (roomRow room ∷ allRow (w .priority) (w .ordinary) (w .tables) ∷ row 3 (not true) ∷ [])) 0)
-      (λ e. rw (e, heard-restarts (readOf b) q, heard-restarts (readOf b) (w .pod)))
-      (λ e. rw e))
-
-  command-tables : (x : ℕ) → q .initialised ≡ w .pod .initialised → step (withPod q w) (word x) .world .tables ≡ step w (word x) .world .tables
-  unfolding step commandCall commandOf
-  command-tables x on =
-      rw (first, second, on)
-      (split (eqb (lowest (tablesRow (w .tables) ∷ row 3 (not true) ∷ [])) 0) (λ e. rw e) (λ e. rw e))
-
-  -- any call but a data word written does to the tables what it does with another sound state there
-  pub same-tables : q .initialised ≡ w .pod .initialised → (c : Call) → ((x : ℕ) → c ≡ dataIn x → ⊥)
-      → step (withPod q w) c .world .tables ≡ step w c .world .tables
-  unfolding step
-  same-tables on power other = refl
-  same-tables on (packet b room) other = packet-tables b room
-  same-tables on deadline other = refl
-  same-tables on (put Priority b) other = refl
-  same-tables on (put Ordinary b) other = refl
-  same-tables on (word x) other = command-tables x on
-  same-tables on (dataIn x) other = absurd (other x refl)
-  same-tables on dataOut other = refl
-  same-tables on status other = refl
-  same-tables on (samples k xs) other = refl
-  same-tables on (byte b) other = refl
-  same-tables on timeout other = refl

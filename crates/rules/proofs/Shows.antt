@@ -32,9 +32,9 @@ use Rattle.rules.specs.State.{ringOf, remainingOf, freshFields, freshPod
 use Rattle.rules.specs.Obey.{statusRule, receiveRule, ruleOf, obeyOf, reportOf}
 use Rattle.rules.specs.Refusals.{lowest, stateRow, setRow, overRow}
 use Rattle.rules.specs.Calls.{Sampled, samplesCall, heardOf, replyBytes, spokenBytes, answeredWith, answeredBy}
-use Rattle.rules.specs.World.{World, Call, packet, samples, told, Stepped, step, final, storeIn, bySampled, isRefused, powered}
+use Rattle.rules.specs.World.{World, Call, packet, samples, told, Stepped, step, final, storeIn, bySampled, isRefused, powered, answering}
 use Rattle.rules.specs.History.{historyOf, receives, receiveCode}
-use Rattle.rules.specs.Replies.{fieldsFrom, awakeFrom, writtenFrom, answering, reportFrom, statusFrom, receivedOf, receivedFrom}
+use Rattle.rules.specs.Replies.{fieldsFrom, awakeFrom, writtenFrom, reportFrom, statusFrom, receivedOf, receivedFrom}
 use Rattle.rules.specs.Demands.{FrameShowsTimeouts, ReceiveIsHistory, StatusIsHistory}
 use Rattle.rules.proofs.Pick.{by-test, split, and-left, and-right}
 use Rattle.rules.proofs.Packet.{packet-fits, packet-answered}

@@ -3,8 +3,8 @@
 -- Assumes nothing.
 use Prim.Native.Nat.{ℕ, _*_}
 use mathlib.Core.Path.{_≡_, refl, sym, ap, ap₂, _∙_}
-use mathlib.Core.Bool.{Bool, true, false, not, cond}
-use mathlib.Core.List.{List, [], _∷_}
+use mathlib.Core.Bool.{Bool, true, false, cond}
+use mathlib.Core.List.{List, [], _∷_, map}
 use lib.ListN.{length, replicate}
 use lib.Dec.{eqb}
 use Rattle.blocks.specs.declared.Store.{Store}
@@ -35,11 +35,13 @@ use Rattle.rules.specs.State.{freshFields, freshPod, restful, soundPod}
 use Rattle.rules.specs.Obey.{initialisedPod, initialiseRule, ruleOf, obeyOf, matches, settled, acknowledgedOf}
 use Rattle.rules.specs.Refusals.{refused, lowest, storeSized, tablesSized, roomRow, allRow, stateRow}
 use Rattle.rules.specs.Calls.{powerCall, heardOf, replyBytes, spokenBytes, answeredWith, answeredBy, packetCall, deadlineCall, putCall, commandCall, dataInCall, dataOutCall, statusCall, samplesCall, byteCall, timeoutCall}
-use Rattle.rules.specs.World.{World, Call, power, packet, deadline, put, command as word, dataIn, dataOut, status, samples, byte, timeout, Told, Point, Stepped, byPacketed, step}
+use Rattle.rules.specs.World.{World, Call, power, packet, deadline, put, command as word, dataIn, dataOut, status, samples, byte, timeout, Told, Point, Stepped, byPacketed, step, run}
 use Rattle.rules.specs.Pairs.{tells}
 use Rattle.rules.proofs.Pick.{split}
-use Rattle.rules.proofs.Gates.{packet-fits}
-use Rattle.rules.proofs.Twins.{emptied, Twin, twin, Same, twin-step}
+use Rattle.rules.proofs.Gates.{size}
+use Rattle.rules.proofs.Packet.{clear-fits}
+use Rattle.rules.proofs.Runs.{Same}
+use Rattle.rules.proofs.Twins.{emptied, Twin, twin, twin-run}
 
 -- what a sleeping pod may show
 pub record Open : Type 0 where
@@ -89,7 +91,7 @@ pub data Sleepers : World → World → Type 0 where
 -- the same is told, and both sleep on, or are twins
 pub data Next (x y : Stepped) : Type 0 where
   asleep : x .told ≡ y .told → Sleepers (x .world) (y .world) → Next x y
-  woken : Same x y → Next x y
+  woken : Same Twin x y → Next x y
 
 -- ---- sizes
 
@@ -197,7 +199,7 @@ module _ (r : Open) (x y : Hidden) (hx : soundPod (podOf r x) ≡ true) (hy : so
       (woken
       (record {
         points = refl;
-        twins = twin _ starts (x .first) (y .first) (x .second) (y .second)
+        worlds = twin _ starts (x .first) (y .first) (x .second) (y .second)
             (record {
               priority = emptied Priority (x .first) (y .first) f (sym (z .first) ∙ f);
               ordinary = emptied Ordinary (x .second) (y .second) g (sym (z .second) ∙ g);
@@ -224,8 +226,8 @@ module _ (r : Open) (x y : Hidden) (hx : soundPod (podOf r x) ≡ true) (hy : so
       let rows = roomRow room ∷ allRow (x .first) (x .second) (x .tables) ∷ stateRow (podOf r x) ∷ [] in
       split (eqb (lowest rows) 0)
       (λ e.
-      let h = packet-fits room (x .first) (x .second) (x .tables) (podOf r x) e in
-      rw (← rows-same room) (simp e (heard-next (readOf b) room (h .priority) (h .ordinary))))
+      let h = clear-fits (sleeping r x) room e in
+      rw (← rows-same room) (simp e (heard-next (readOf b) room (size Priority (x .first) (h .priority)) (size Ordinary (x .second) (h .ordinary)))))
       (λ e. rw (← rows-same room) (simp e (asleep refl same)))
 
   next : (c : Call) → Next (step (sleeping r x) c) (step (sleeping r y) c)
@@ -247,19 +249,16 @@ sleep-step (sleepers r x y hx hy z) c = next r x y hx hy z c
 
 -- ---- runs
 
-pub twin-tells : {v w : World} → Twin v w → (cs : List Call) → tells v cs ≡ tells w cs
+twin-tells : {v w : World} → Twin v w → (cs : List Call) → tells v cs ≡ tells w cs
 unfolding tells
-twin-tells x [] = refl
-twin-tells {v} {w} x (c ∷ cs) =
-    let s : Same (step v c) (step w c) = twin-step x c in
-    ap₂ (λ (e : Told) (l : List Told). e ∷ l) (ap (λ (e : Point). e .told) (s .points)) (twin-tells (s .twins) cs)
+twin-tells x cs = ap (map (λ (e : Point). e .told)) (twin-run x cs)
 
 pub sleep-tells : (cs : List Call) {v w : World} → Sleepers v w → tells v cs ≡ tells w cs
-unfolding tells
+unfolding tells run
 sleep-tells [] x = refl
 sleep-tells (c ∷ cs) {v} {w} x = go (sleep-step x c) (λ y. sleep-tells cs y)
   where
     go : Next (step v c) (step w c) → (Sleepers (step v c .world) (step w c .world) → tells (step v c .world) cs ≡ tells (step w c .world) cs)
         → _≡_ {A = List Told} (step v c .told ∷ tells (step v c .world) cs) (step w c .told ∷ tells (step w c .world) cs)
     go (asleep e y) k = ap₂ (λ (m : Told) (l : List Told). m ∷ l) e (k y)
-    go (woken s) k = ap₂ (λ (m : Told) (l : List Told). m ∷ l) (ap (λ (p : Point). p .told) (s .points)) (twin-tells (s .twins) cs)
+    go (woken s) k = ap₂ (λ (m : Told) (l : List Told). m ∷ l) (ap (λ (p : Point). p .told) (s .points)) (twin-tells (s .worlds) cs)

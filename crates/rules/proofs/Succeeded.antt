@@ -15,19 +15,19 @@ use Rattle.packets.specs.Answers.{closed, answerOf, errorAnswer}
 use Rattle.packets.proofs.Laws.{length-of-answer}
 use Rattle.rules.specs.Refusals.{Said, refused, done, bytes, word}
 use Rattle.rules.specs.World.{Told, told, isRefused}
-use Rattle.rules.specs.History.{answeredOne, succeeded}
+use Rattle.rules.specs.History.{secondIs, succeeded}
 use Rattle.rules.proofs.Pick.{and-false}
 
--- an answer without error is no refusal
-pub answer-not-refused : (s : Said) (l : List ℕ) → answeredOne s l ≡ true → isRefused s ≡ false
-answer-not-refused (refused n) l h = absurd (false≢true h)
-answer-not-refused done l h = refl
-answer-not-refused (bytes n) l h = refl
-answer-not-refused (word x) l h = refl
+-- an answer is no refusal
+pub answer-not-refused : (k : ℕ) (s : Said) (l : List ℕ) → secondIs k s l ≡ true → isRefused s ≡ false
+answer-not-refused k (refused n) l h = absurd (false≢true h)
+answer-not-refused k done l h = refl
+answer-not-refused k (bytes n) l h = refl
+answer-not-refused k (word x) l h = refl
 
 pub succeeded-not-refused : (t : Told) → succeeded t ≡ true → isRefused (t .said) ≡ false
 unfolding succeeded
-succeeded-not-refused t h = answer-not-refused (t .said) (t .bytes) h
+succeeded-not-refused t h = answer-not-refused 0x01 (t .said) (t .bytes) h
 
 -- a run of stores leaves what stands before it
 pub before-run : (vs l : List ℕ) (i k : ℕ) → k < i → getD (sets l i vs) k 0 ≡ getD l k 0

@@ -8,17 +8,17 @@ use lib.Dec.{eqb}
 use Rattle.packets.specs.declared.Command.the-variants as command
 use Rattle.packets.specs.declared.Parsed.{Parsed}
 use Rattle.packets.specs.declared.Parsed.the-variants.{Nothing, Error, Acknowledgement, Asked}
+use Rattle.packets.specs.Commands.{rowOf, placeOf}
 use Rattle.packets.specs.Reading.{readOf}
 use Rattle.tables.specs.declared.Order.the-variants.{Restart}
 use Rattle.tables.specs.Command.{heardOf as orderOf}
-use Rattle.tables.specs.Tables.{starts}
 use Rattle.tables.specs.Port.{tabled}
 use Rattle.tables.proofs.Laws.{command-keeps}
 use Rattle.rules.specs.declared.Pod.{Pod}
 use Rattle.rules.specs.Calls.{heardOf, answeredWith, answeredBy, commandCall}
 use Rattle.rules.specs.Refusals.{tablesRow, stateRow, lowest}
 use Rattle.rules.specs.World.{World, power, packet, deadline, put, command as word, dataIn, dataOut, status, samples, byte, timeout, step}
-use Rattle.rules.specs.History.{asksInitialise, begins}
+use Rattle.rules.specs.History.{asksFor, begins}
 use Rattle.rules.specs.Demands.{TablesOnly}
 use Rattle.blocks.specs.declared.Store.the-variants.{Priority, Ordinary}
 use Rattle.rules.proofs.Pick.{split}
@@ -29,7 +29,8 @@ use Rattle.rules.proofs.Spoken.{spokenFine, spoken-fine}
 use Rattle.rules.proofs.Restarts.{restarts, heard-restarts}
 
 -- a packet that puts the tables to their starts is an Initialise answered without error
-restart-begins : (r : Parsed) (p : Pod) → restarts r ≡ true → (asksInitialise r && spokenFine (heardOf r p .spoken)) ≡ true
+restart-begins : (r : Parsed) (p : Pod) → restarts r ≡ true → (asksFor 0x90 r && spokenFine (heardOf r p .spoken)) ≡ true
+unfolding rowOf placeOf
 restart-begins Nothing p h = absurd (false≢true h)
 restart-begins (Error first n) p h = absurd (false≢true h)
 restart-begins (Acknowledgement first one) p h = absurd (false≢true h)
@@ -59,7 +60,7 @@ module _ (w : World) where
       let so = packet-answered w b room fits in
       let y = heardOf (readOf b) (w .pod) in
       let ok = spoken-fine (y .pod) (w .priority) (w .ordinary) room (fits .room) (y .spoken) in
-      let began : (asksInitialise (readOf b) && spokenFine (y .spoken)) ≡ false = rw (so, ok) at h in
+      let began : (asksFor 0x90 (readOf b) && spokenFine (y .spoken)) ≡ false = rw (so, ok) at h in
       split (restarts (readOf b))
       (λ r. absurd (false≢true (sym began ∙ restart-begins (readOf b) (w .pod) r)))
       (λ r. rw (so, heard-restarts (readOf b) (w .pod), r)))

@@ -2,7 +2,7 @@
 -- tells the same in both, and leaves two such worlds.
 -- Assumes nothing.
 use Prim.Native.Nat.{ℕ, _*_, _<_}
-use mathlib.Core.Path.{_≡_, refl, sym, ap, ap₂, _∙_}
+use mathlib.Core.Path.{_≡_, refl, sym, ap, _∙_}
 use mathlib.Core.Bool.{Bool, true, cond, _||_}
 use mathlib.Core.Logic.{_⊎_, inl, inr}
 use mathlib.Core.List.{List, [], _∷_}
@@ -34,9 +34,10 @@ use Rattle.rules.specs.State.{ringOf, withRing, remainingOf, freshPod, s
 use Rattle.rules.specs.Obey.{shut, initialisedPod, initialiseRule, statusRule, updateRule, writeRule, readBy, readRule, receiveRule, shutdownRule, isInitialise, ruleOf, obeyOf, matches, dropFrom, settled, acknowledgedOf}
 use Rattle.rules.specs.Refusals.{Said, refused, done, Row, lowest, gated, roomRow, allRow, tablesRow, stateRow, blockRow, asleepRow, fullRow}
 use Rattle.rules.specs.Calls.{Outcome, Powered, powerCall, Spoken, silent, says, heardOf, replyBytes, spokenBytes, answeredWith, answeredBy, Packeted, packetCall, deadlineCall, Put, putCall, Worded, commandCall, dataInCall, dataOutCall, statusCall, Piping, byteCall, timeoutCall}
-use Rattle.rules.specs.World.{World, Call, power, packet, deadline, put, command as word, dataIn, dataOut, status, samples, byte, timeout, Told, told, Point, point, Stepped, stepped, isRefused, byPut, step, run}
+use Rattle.rules.specs.World.{World, Call, power, packet, deadline, put, command as word, dataIn, dataOut, status, samples, byte, timeout, Told, stepped, isRefused, byPut, step, run}
 use Rattle.rules.proofs.Pick.{by-test, split}
 use Rattle.rules.proofs.Bounds.{pod-in}
+use Rattle.rules.proofs.Runs.{Same, same-run}
 use Rattle.rules.proofs.Gates.{sized, put-fits}
 
 -- ---- one store
@@ -109,11 +110,6 @@ world p a o t = record { pod = p; priority = a; ordinary = o; tables = t }
 -- one pod and the same table words, and the same blocks waiting
 pub data Twin : World → World → Type 0 where
   twin : (p : Pod) (t : Three) (a₁ a₂ o₁ o₂ : List ℕ) → Held a₁ a₂ o₁ o₂ (p .priority) (p .ordinary) → Twin (world p a₁ o₁ t) (world p a₂ o₂ t)
-
--- the same is told, with the same table words, and twins are left
-pub record Same (x y : Stepped) : Type 0 where
-  pub points : point x ≡ point y
-  pub twins : Twin (x .world) (y .world)
 
 -- ---- both stores under each call
 
@@ -220,17 +216,17 @@ module _ (a₁ a₂ o₁ o₂ : List ℕ) where
   unfolding powerCall
   power-hold t p h = gated-hold (λ (o : Powered). cond (isRefused (o .said)) p (o .pod)) (tablesRow t ∷ []) (fresh-hold p h) h
 
-  same-pod : (m : Told) (q : Pod) (u : Three) → Hold q → Same (stepped m (world q a₁ o₁ u)) (stepped m (world q a₂ o₂ u))
-  same-pod m q u k = record { points = refl; twins = twin q u a₁ a₂ o₁ o₂ k }
+  same-pod : (m : Told) (q : Pod) (u : Three) → Hold q → Same Twin (stepped m (world q a₁ o₁ u)) (stepped m (world q a₂ o₂ u))
+  same-pod m q u k = record { points = refl; worlds = twin q u a₁ a₂ o₁ o₂ k }
 
   put-step : (s : Store) (p : Pod) (t : Three) → Hold p → {x y : Put} → PutSame s p x y
-      → Same (byPut s x (world p a₁ o₁ t)) (byPut s y (world p a₂ o₂ t))
+      → Same Twin (byPut s x (world p a₁ o₁ t)) (byPut s y (world p a₂ o₂ t))
   put-step Priority p t h (put-pair m r x y k) =
-      record { points = refl; twins = twin (withRing Priority r p) t x y o₁ o₂ (record { priority = k; ordinary = h .ordinary }) }
+      record { points = refl; worlds = twin (withRing Priority r p) t x y o₁ o₂ (record { priority = k; ordinary = h .ordinary }) }
   put-step Ordinary p t h (put-pair m r x y k) =
-      record { points = refl; twins = twin (withRing Ordinary r p) t a₁ a₂ x y (record { priority = h .priority; ordinary = k }) }
+      record { points = refl; worlds = twin (withRing Ordinary r p) t a₁ a₂ x y (record { priority = h .priority; ordinary = k }) }
 
-  step-same : (c : Call) (p : Pod) (t : Three) → Hold p → Same (step (world p a₁ o₁ t) c) (step (world p a₂ o₂ t) c)
+  step-same : (c : Call) (p : Pod) (t : Three) → Hold p → Same Twin (step (world p a₁ o₁ t) c) (step (world p a₂ o₂ t) c)
   unfolding step deadlineCall commandCall dataInCall dataOutCall statusCall byteCall timeoutCall
   step-same power p t h = same-pod _ _ _ (power-hold t p h)
   step-same (packet b room) p t h = rw (packet-same b room t p h) (same-pod _ _ _ (packet-hold b room a₂ o₂ t p h))
@@ -246,13 +242,9 @@ module _ (a₁ a₂ o₁ o₂ : List ℕ) where
   step-same timeout p t h = same-pod _ _ t (gated-hold (λ (o : Piping). o .pod) (stateRow p ∷ asleepRow p ∷ []) h h)
 
 -- every call tells the same in twins, and leaves twins
-pub twin-step : {v w : World} → Twin v w → (c : Call) → Same (step v c) (step w c)
+pub twin-step : {v w : World} → Twin v w → (c : Call) → Same Twin (step v c) (step w c)
 twin-step (twin p t a₁ a₂ o₁ o₂ h) c = step-same a₁ a₂ o₁ o₂ c p t h
 
 -- so every list of calls does, with the same table words at every point
 pub twin-run : {v w : World} → Twin v w → (cs : List Call) → run v cs ≡ run w cs
-unfolding run
-twin-run x [] = refl
-twin-run {v} {w} x (c ∷ cs) =
-    let s : Same (step v c) (step w c) = twin-step x c in
-    ap₂ (λ (e : Point) (l : List Point). e ∷ l) (s .points) (twin-run (s .twins) cs)
+twin-run x cs = same-run Twin (λ v w y c. twin-step y c) x cs

@@ -15,9 +15,9 @@ use Rattle.rules.specs.declared.Pod.{Pod}
 use Rattle.rules.specs.State.{freshPod}
 use Rattle.rules.specs.Obey.{readBy, readRule, ruleOf, obeyOf}
 use Rattle.rules.specs.Calls.{heardOf, replyBytes, spokenBytes}
-use Rattle.rules.specs.World.{World, Call, step, final, powered}
+use Rattle.rules.specs.World.{World, Call, step, final, powered, answering}
 use Rattle.rules.specs.History.{historyOf, valueFrom}
-use Rattle.rules.specs.Replies.{answering, readFrom}
+use Rattle.rules.specs.Replies.{readFrom}
 use Rattle.rules.specs.Demands.{ReadIsWritten}
 use Rattle.rules.proofs.Pick.{split}
 use Rattle.rules.proofs.Obeying.{start-value}

@@ -1,15 +1,16 @@
 -- Data words written to an initialised pod: they go to the table port, and the rest of the world stays as it is.
 -- Assumes nothing.
 use Prim.Native.Nat.{ℕ}
-use mathlib.Core.Path.{_≡_, refl, sym, ap, _∙_}
+use mathlib.Core.Path.{_≡_, refl, ap, _∙_}
 use mathlib.Core.Bool.{true}
 use mathlib.Core.List.{List, [], _∷_, map}
 use borrow.Author.Tests.{eq-eqb}
 use Rattle.tables.specs.declared.Words.{Words}
 use Rattle.tables.specs.Bounds.{soundOf as soundWords}
-use Rattle.tables.specs.Tables.{Three, sizedOf}
-use Rattle.tables.specs.Port.{Tabled, tabled, dataInOf, writtenOf}
+use Rattle.tables.specs.Tables.{Three}
+use Rattle.tables.specs.Port.{Tabled, tabled, dataInOf}
 use Rattle.tables.proofs.Kept.{data-in-sound, data-in-sized}
+use Rattle.tables.proofs.Gathering.{writtenOf}
 use Rattle.rules.specs.declared.Pod.{Pod}
 use Rattle.rules.specs.State.{withWords, restful, soundPod}
 use Rattle.rules.specs.Refusals.{tablesRow, stateRow, lowest, tablesSized}
@@ -30,17 +31,12 @@ pub record Ready (w : World) : Type 0 where
   pub pod : PodIn (w .pod)
   pub on : w .pod .initialised ≡ true
 
--- the tables' sizes are judged as the table port judges them
-pub same-sized : (t : Three) → tablesSized t ≡ sizedOf t
-unfolding tablesSized sizedOf
-same-sized t = refl
-
 -- rows 2 and 3 do not hold
 pub words-clear : (t : Three) (p : Pod) → tablesSized t ≡ true → soundPod p ≡ true → lowest (tablesRow t ∷ stateRow p ∷ []) ≡ 0
 unfolding lowest
 words-clear t p h k = simp (h, k)
 
-data-step : (w : World) (x : ℕ) → Ready w → step w (dataIn x) .world ≡ laid (dataInOf x (portOf w)) w
+pub data-step : (w : World) (x : ℕ) → Ready w → step w (dataIn x) .world ≡ laid (dataInOf x (portOf w)) w
 unfolding step dataInCall
 data-step w x h = rw (eq-eqb _ _ (words-clear (w .tables) (w .pod) (h .tables) (in-pod (h .pod))))
 
@@ -53,9 +49,7 @@ on-words p v h on k =
 data-ready : (w : World) (x : ℕ) → Ready w → Ready (laid (dataInOf x (portOf w)) w)
 data-ready w x h =
     record {
-      tables =
-          same-sized (dataInOf x (portOf w) .tables)
-          ∙ data-in-sized x (portOf w) (sym (same-sized (w .tables)) ∙ h .tables);
+      tables = data-in-sized x (portOf w) (h .tables);
       pod = on-words (w .pod) (dataInOf x (portOf w) .words) (h .pod) (h .on) (data-in-sound x (portOf w) (h .pod .words));
       on = h .on;
     }
@@ -67,9 +61,3 @@ final-written [] w h = refl
 final-written (x ∷ xs) w h =
     ap (λ (v : World). final v (map dataIn xs)) (data-step w x h)
     ∙ final-written xs (laid (dataInOf x (portOf w)) w) (data-ready w x h)
-
--- and leave a world of that kind
-pub written-ready : (xs : List ℕ) (w : World) → Ready w → Ready (laid (writtenOf xs (portOf w)) w)
-unfolding writtenOf
-written-ready [] w h = h
-written-ready (x ∷ xs) w h = written-ready xs (laid (dataInOf x (portOf w)) w) (data-ready w x h)

@@ -4,9 +4,10 @@ use Prim.Native.Nat.{ℕ, zero, suc}
 use mathlib.Core.Path.{_≡_}
 use mathlib.Core.Bool.{Bool, true, false, not, _&&_, cond}
 use mathlib.Core.List.{List, [], _∷_}
-use lib.Dec.{ltb, eqb}
-use lib.ListN.{length, getD, take, drop}
-use lib.Seq.{sets}
+use lib.Dec.{eqb}
+use lib.ListN.{take, drop}
+use Rattle.blocks.specs.declared.Store.{Store}
+use Rattle.blocks.specs.declared.Store.the-variants as store
 use Rattle.packets.specs.declared.Command.{Command}
 use Rattle.packets.specs.declared.Command.the-variants.{Initialise, Status, Update, Write, Read, Priority, Data, Shutdown}
 use Rattle.packets.specs.declared.Parsed.{Parsed}
@@ -17,8 +18,10 @@ use Rattle.packets.specs.Answers.{errorAnswer}
 use Rattle.params.specs.declared.Params.{Params}
 use Rattle.params.specs.Rules.{isId, allowed}
 use Rattle.rules.specs.declared.Pod.{Pod}
-use Rattle.rules.specs.Refusals.{Said, refused, done, bytes, word}
-use Rattle.rules.specs.World.{Told, told}
+use Rattle.rules.specs.Refusals.{bytes}
+use Rattle.rules.specs.State.{ringOf, remainingOf}
+use Rattle.rules.specs.World.{Told, answering}
+use Rattle.rules.specs.History.{secondIs}
 
 -- 7: "Not initialised, and not 0x90"
 unfoldable pub early : Command → Pod → Bool
@@ -35,27 +38,24 @@ outside Priority q = false
 outside Data q = false
 outside Shutdown q = false
 
+-- a test of the store that a command asks a block of
+abbrev pub ofStore : (Store → Bool) → Command → Bool
+ofStore f (Initialise g) = false
+ofStore f Status = false
+ofStore f (Update g) = false
+ofStore f (Write id v) = false
+ofStore f (Read id) = false
+ofStore f Priority = f store.Priority
+ofStore f Data = f store.Ordinary
+ofStore f Shutdown = false
+
 -- 9: "Nothing waiting", for a command that asks for a block
 unfoldable pub noneWaits : Command → Pod → Bool
-noneWaits (Initialise f) p = false
-noneWaits Status p = false
-noneWaits (Update f) p = false
-noneWaits (Write id v) p = false
-noneWaits (Read id) p = false
-noneWaits Priority p = eqb (p .priority .waiting) 0
-noneWaits Data p = eqb (p .ordinary .waiting) 0
-noneWaits Shutdown p = false
+noneWaits c p = ofStore (λ s. eqb (ringOf s p .waiting) 0) c
 
 -- "Then remaining is 0"
 unfoldable pub noneRemains : Command → Pod → Bool
-noneRemains (Initialise f) p = false
-noneRemains Status p = false
-noneRemains (Update f) p = false
-noneRemains (Write id v) p = false
-noneRemains (Read id) p = false
-noneRemains Priority p = eqb (p .fields .priorityremaining) 0
-noneRemains Data p = eqb (p .fields .memoryremaining) 0
-noneRemains Shutdown p = false
+noneRemains c p = ofStore (λ s. eqb (remainingOf s (p .fields)) 0) c
 
 -- the error of the first of these checks that fails, 0 for none
 unfoldable pub checkOf : Command → Pod → ℕ
@@ -65,10 +65,6 @@ checkOf c p =
     (cond (noneWaits c p) 0x3A
     (cond (noneRemains c p) 0x3B
     0)))
-
--- an answer told: its length, and the room with it at the start
-abbrev pub answered : List ℕ → List ℕ → Told
-answered room answer = told (bytes (length answer)) (sets room 0 answer)
 
 -- a command answered without error
 pub record Succeeds (c : Command) (room : List ℕ) (t : Told) : Type 0 where
@@ -83,21 +79,15 @@ pub record Succeeds (c : Command) (room : List ℕ) (t : Told) : Type 0 where
 -- a command, with the error that it gets
 abbrev pub AnswersCommand : Command → ℕ → List ℕ → Told → Type 0
 AnswersCommand c zero room t = Succeeds c room t
-AnswersCommand c (suc n) room t = t ≡ answered room (errorAnswer (rowOf c .code) (suc n))
+AnswersCommand c (suc n) room t = t ≡ answering room (errorAnswer (rowOf c .code) (suc n))
 
 -- "Empty packet: answer of length 0"; an error of checks 2 to 6; an acknowledgement "gets no answer"; a command by checks 7 to 9
 abbrev pub Answers : Parsed → Pod → List ℕ → Told → Type 0
-Answers Nothing p room t = t ≡ answered room []
-Answers (Error first n) p room t = t ≡ answered room (errorAnswer first n)
-Answers (Acknowledgement first one) p room t = t ≡ answered room []
+Answers Nothing p room t = t ≡ answering room []
+Answers (Error first n) p room t = t ≡ answering room (errorAnswer first n)
+Answers (Acknowledgement first one) p room t = t ≡ answering room []
 Answers (Asked c) p room t = AnswersCommand c (checkOf c p) room t
 
--- "An error answer has 5 bytes: the packet's first byte, 0x09, the error, CRC": there is an answer, and its second byte is 0x09
-abbrev pub answeredNine : Said → List ℕ → Bool
-answeredNine (refused n) room = false
-answeredNine done room = false
-answeredNine (bytes n) room = ltb 0 n && eqb (getD room 1 0) 0x09
-answeredNine (word x) room = false
-
+-- "An error answer has 5 bytes: the packet's first byte, 0x09, the error, CRC"
 unfoldable pub errored : Told → Bool
-errored t = answeredNine (t .said) (t .bytes)
+errored t = secondIs 0x09 (t .said) (t .bytes)

@@ -1,14 +1,12 @@
 -- What the owner asked for, said of the rules. Each name is a statement; proofs/ has a proof of each.
 -- Assumes nothing.
-use Prim.Native.Nat.{ℕ, _+_, _-_, _/_, _<_, _≤_, min}
+use Prim.Native.Nat.{ℕ, _+_, _/_, _<_, min}
 use mathlib.Core.Path.{_≡_}
 use mathlib.Core.Logic.{_↔_}
 use mathlib.Core.Bool.{Bool, true, false, not, _&&_, _||_, cond}
-use mathlib.Core.List.{List, [], _∷_, map}
+use mathlib.Core.List.{List, [], _∷_, _++_}
 use lib.ListN.{length, getD, replicate}
-use lib.Seq.{sets}
 use lib.Dec.{eqb, ltb}
-use lib.IntN.{ℤ}
 use Rattle.blocks.specs.declared.Store.{Store}
 use Rattle.blocks.specs.Stores.{capacityOf, blocksIn}
 use Rattle.packets.specs.declared.Fields.{Fields}
@@ -17,19 +15,19 @@ use Rattle.packets.specs.declared.Command.the-variants as command
 use Rattle.packets.specs.Reading.{readOf, crcRight}
 use Rattle.tables.specs.declared.Table.{Table}
 use Rattle.tables.specs.declared.Order.the-variants.{Restart, Writing}
-use Rattle.tables.specs.declared.Transfer.the-variants.{Idle, Load}
-use Rattle.tables.specs.Tables.{numberOf, sizeOf, Three, starts, wordsOf, withTable}
+use Rattle.tables.specs.declared.Transfer.the-variants.{Load}
+use Rattle.tables.specs.Tables.{Three, starts}
 use Rattle.tables.specs.Command.{heardOf}
-use Rattle.tables.specs.Port.{isOpen, rightOf, storedIn}
-use Rattle.rules.specs.State.{withWords, ringOf, soundPod}
+use Rattle.rules.specs.State.{ringOf, soundPod}
 use Rattle.rules.specs.Obey.{shut}
-use Rattle.rules.specs.Refusals.{Said, refused, tablesSized}
-use Rattle.rules.specs.World.{World, Call, packet, command as word, dataIn, samples, roomOf, Told, told, Stepped, stepped, withPod, withTables, storeIn, isRefused, step, final, run, powered}
+use Rattle.rules.specs.Refusals.{refused}
+use Rattle.rules.specs.World.{World, Call, packet, command as word, dataIn, samples, roomOf, told, withPod, storeIn, isRefused, step, final, run, powered, answering}
 use Rattle.rules.specs.Rows.{holds}
 use Rattle.rules.specs.Checks.{Answers, errored}
-use Rattle.rules.specs.Replies.{answering, readFrom, receivedFrom, statusFrom}
+use Rattle.rules.specs.Replies.{readFrom, receivedFrom, statusFrom}
 use Rattle.rules.specs.History.{begins, historyOf, receives, waitingFrom, nothingWaits, timeoutsFrom}
 use Rattle.rules.specs.Pairs.{Accepts, ShutsDown, Near, Asleep, tells, Event, past}
+use Rattle.rules.specs.Loads.{Fit, closes, leftOpen, wordsIn, othersIn, opened, loaded}
 
 -- ---- 1. "Any packet, word, sample or state may arrive. Each is answered, or refused by a number in document 01"
 
@@ -55,36 +53,23 @@ KeptSound =
 
 -- ---- 2. "Answers, tables, waiting blocks and frames are exactly what document 01 takes from those papers."
 
--- a world in which no row that applies to a table word holds
-pub record Fit (w : World) : Type 0 where
-  pub tables : tablesSized (w .tables) ≡ true
-  pub sound : soundPod (w .pod) ≡ true
-  -- the load's array has its length
-  pub load : length (w .pod .words .load) ≡ 64
-
--- the world after a load of these words: where every check passes the addressed words of its table are new, else message error is
--- set, as it is where a transfer was cut; the load is closed, and all else is as it was
-abbrev pub loaded : Table → ℕ → List ℕ → World → World
-loaded t n xs w =
-    let right = rightOf (sizeOf t) (numberOf t) n xs in
-    let words = w .pod .words in
-    withTables (cond right (withTable t (storedIn n xs (wordsOf t (w .tables))) (w .tables)) (w .tables))
-    (withWords (record { error = (words .error || isOpen (words .transfer)) || not right; transfer = Idle; load = sets (words .load) 0 xs; places = words .places; given = words .given }) (w .pod))
-    w
-
--- "A table load counts when its last word is in and every check passes, and then changes the addressed words and no other.":
--- from its command word on, whatever transfer was open
+-- "A table load counts when its last word is in and every check passes, and then changes the addressed words and no other.": from
+-- its command word on, whatever calls come in between that do not close it, its last word being y. All but the tables is what those
+-- calls alone make of the world, with the load closed
 abbrev pub LoadWhole : Type 0
 LoadWhole =
-    (w : World) (x : ℕ) (t : Table) (n : ℕ) (xs : List ℕ) → Fit w → w .pod .initialised ≡ true → heardOf true x ≡ Writing t n → length xs ≡ n
-    → final w (word x ∷ map dataIn xs) ≡ loaded t n xs w
+    (w : World) (x : ℕ) (t : Table) (n : ℕ) (cs : List Call) (y : ℕ) → Fit w → w .pod .initialised ≡ true → heardOf true x ≡ Writing t n
+    → leftOpen (historyOf (opened t n w) cs) ≡ true → length (wordsIn cs) + 1 ≡ n
+    → final w (word x ∷ (cs ++ (dataIn y ∷ []))) ≡ loaded t n (wordsIn cs ++ (y ∷ [])) (w .tables) (final (opened t n w) (othersIn cs))
 
--- a load cut short leaves nothing behind: whatever call but a data word comes next, the tables are as if no word had come
+-- a load cut short leaves nothing behind: while it is open none of its words stands in a table, and from the call on that closes it
+-- before its last word, all answers and table words are, for ever, as if no word of it had come
 abbrev pub LoadCut : Type 0
 LoadCut =
-    (w : World) (t : Table) (n : ℕ) (xs : List ℕ) (c : Call) → Fit w → w .pod .words .transfer ≡ Load t n 0 → length xs < n
-    → (final w (map dataIn xs) .tables ≡ w .tables)
-    × (((x : ℕ) → c ≡ dataIn x → ⊥) → step (final w (map dataIn xs)) c .world .tables ≡ step w c .world .tables)
+    (w : World) (t : Table) (n : ℕ) (bs : List Call) (c : Call) (cs : List Call) → Fit w → w .pod .words .transfer ≡ Load t n 0
+    → leftOpen (historyOf w bs) ≡ true → length (wordsIn bs) < n
+    → (final w bs .tables ≡ w .tables)
+    × (closes c (step (final w bs) c .told) ≡ true → run (final w bs) (c ∷ cs) ≡ run (final w (othersIn bs)) (c ∷ cs))
 
 -- ".. and no other": power on, an accepted Initialise, a data word written and the command word "tables to their starts" apart, a
 -- call leaves the tables as they are

@@ -8,10 +8,12 @@ use lib.IntN.{ℤ}
 use lib.ListN.{length, drop, getD}
 use Rattle.blocks.specs.declared.Store.{Store}
 use Rattle.blocks.specs.declared.Store.the-variants.{Priority, Ordinary}
+use Rattle.packets.specs.declared.Fields.{Fields}
 use Rattle.packets.specs.declared.Command.{Command}
 use Rattle.packets.specs.declared.Command.the-variants as command
 use Rattle.packets.specs.declared.Parsed.{Parsed}
 use Rattle.packets.specs.declared.Parsed.the-variants.{Nothing, Error, Acknowledgement, Asked}
+use Rattle.packets.specs.Commands.{rowOf as commandRow}
 use Rattle.packets.specs.Reading.{readOf}
 use Rattle.params.specs.Rows.{rowOf}
 use Rattle.rules.specs.declared.Exchange.{Exchange}
@@ -29,15 +31,51 @@ unfoldable pub historyOf : World → List Call → List Entry
 historyOf w [] = []
 historyOf w (c ∷ cs) = record { call = c; told = step w c .told } ∷ historyOf (step w c .world) cs
 
--- a packet that was not refused was answered without error: there is an answer, and its second byte is 0x01
-abbrev pub answeredOne : Said → List ℕ → Bool
-answeredOne (refused n) room = false
-answeredOne done room = false
-answeredOne (bytes n) room = ltb 0 n && eqb (getD room 1 0) 0x01
-answeredOne (word x) room = false
+-- a packet was answered, and the second byte of its answer is k
+abbrev pub secondIs : ℕ → Said → List ℕ → Bool
+secondIs k (refused n) room = false
+secondIs k done room = false
+secondIs k (bytes n) room = ltb 0 n && eqb (getD room 1 0) k
+secondIs k (word x) room = false
 
+-- it was answered without error
 unfoldable pub succeeded : Told → Bool
-succeeded t = answeredOne (t .said) (t .bytes)
+succeeded t = secondIs 0x01 (t .said) (t .bytes)
+
+-- what power on brings, what a packet brings as it is read, and what any other call does
+abbrev pub byCall {ℓ} : {A : Type ℓ} → A → (Parsed → A) → A → Call → A
+byCall p f z power = p
+byCall p f z (packet b room) = f (readOf b)
+byCall p f z deadline = z
+byCall p f z (put s b) = z
+byCall p f z (command y) = z
+byCall p f z (dataIn y) = z
+byCall p f z dataOut = z
+byCall p f z status = z
+byCall p f z (samples k xs) = z
+byCall p f z (byte b) = z
+byCall p f z timeout = z
+
+-- what each command that changes fields or parameters, or that wakes the pod or puts it to sleep, brings; and any other packet
+pub record Brings (A : Type 0) : Type 0 where
+  pub initialise : Fields → A
+  pub update : Fields → A
+  pub write : ℕ → ℤ → A
+  pub shutdown : A
+  pub other : A
+
+abbrev pub byPacket : {A : Type 0} → Brings A → Parsed → A
+byPacket x Nothing = x .other
+byPacket x (Error first n) = x .other
+byPacket x (Acknowledgement first one) = x .other
+byPacket x (Asked (command.Initialise f)) = x .initialise f
+byPacket x (Asked command.Status) = x .other
+byPacket x (Asked (command.Update f)) = x .update f
+byPacket x (Asked (command.Write id v)) = x .write id v
+byPacket x (Asked (command.Read id)) = x .other
+byPacket x (Asked command.Priority) = x .other
+byPacket x (Asked command.Data) = x .other
+byPacket x (Asked command.Shutdown) = x .shutdown
 
 -- "A type 2 answer without error opens an exchange"
 unfoldable pub opens : Command → Exchange
@@ -84,33 +122,16 @@ isReceive s Status = false
 isReceive s Read = false
 isReceive s (Receive r) = sameStore s r
 
--- whether a packet is an Initialise
-abbrev pub asksInitialise : Parsed → Bool
-asksInitialise Nothing = false
-asksInitialise (Error first n) = false
-asksInitialise (Acknowledgement first one) = false
-asksInitialise (Asked (command.Initialise f)) = true
-asksInitialise (Asked command.Status) = false
-asksInitialise (Asked (command.Update f)) = false
-asksInitialise (Asked (command.Write id v)) = false
-asksInitialise (Asked (command.Read id)) = false
-asksInitialise (Asked command.Priority) = false
-asksInitialise (Asked command.Data) = false
-asksInitialise (Asked command.Shutdown) = false
+-- whether a packet is the command of a code
+abbrev pub asksFor : ℕ → Parsed → Bool
+asksFor k Nothing = false
+asksFor k (Error first n) = false
+asksFor k (Acknowledgement first one) = false
+asksFor k (Asked c) = eqb (commandRow c .code) k
 
 -- a call begins anew: power on, or an accepted Initialise
 unfoldable pub begins : Call → Told → Bool
-begins power t = not (isRefused (t .said))
-begins (packet b room) t = asksInitialise (readOf b) && succeeded t
-begins deadline t = false
-begins (put s b) t = false
-begins (command y) t = false
-begins (dataIn y) t = false
-begins dataOut t = false
-begins status t = false
-begins (samples k xs) t = false
-begins (byte b) t = false
-begins timeout t = false
+begins c t = byCall (not (isRefused (t .said))) (λ r. asksFor 0x90 r && succeeded t) false c
 
 -- the command that receives a block of a store, and its code
 abbrev pub receives : Store → Command
@@ -183,30 +204,10 @@ timeoutsFrom n (e ∷ es) = timeoutsFrom (cond (begins (e .call) (e .told)) 0 (n
 
 -- the value that a parameter write carries, if it is one of that id
 abbrev pub writtenBy : ℕ → Parsed → ℤ → ℤ
-writtenBy id Nothing v = v
-writtenBy id (Error first n) v = v
-writtenBy id (Acknowledgement first one) v = v
-writtenBy id (Asked (command.Initialise f)) v = v
-writtenBy id (Asked command.Status) v = v
-writtenBy id (Asked (command.Update f)) v = v
-writtenBy id (Asked (command.Write k u)) v = cond (eqb k id) u v
-writtenBy id (Asked (command.Read k)) v = v
-writtenBy id (Asked command.Priority) v = v
-writtenBy id (Asked command.Data) v = v
-writtenBy id (Asked command.Shutdown) v = v
+writtenBy id r v = byPacket (record { initialise = λ f. v; update = λ f. v; write = λ k u. cond (eqb k id) u v; shutdown = v; other = v }) r
 
 unfoldable pub valueBy : ℕ → Call → Told → ℤ → ℤ
-valueBy id power t v = v
-valueBy id (packet b room) t v = cond (succeeded t) (writtenBy id (readOf b) v) v
-valueBy id deadline t v = v
-valueBy id (put s b) t v = v
-valueBy id (command y) t v = v
-valueBy id (dataIn y) t v = v
-valueBy id dataOut t v = v
-valueBy id status t v = v
-valueBy id (samples k xs) t v = v
-valueBy id (byte b) t v = v
-valueBy id timeout t v = v
+valueBy id c t v = byCall v (λ r. cond (succeeded t) (writtenBy id r v) v) v c
 
 -- what was last written to a parameter since Initialise, else its start
 unfoldable pub valueFrom : ℕ → ℤ → List Entry → ℤ

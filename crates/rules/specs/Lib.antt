@@ -8,5 +8,6 @@ pub mod Replies
 pub mod Rows
 pub mod Checks
 pub mod Pairs
+pub mod Loads
 pub mod Demands
 pub mod Shown

@@ -9,10 +9,8 @@ use Rattle.packets.specs.declared.Fields.{Fields}
 use Rattle.packets.specs.declared.Parsed.the-variants.{Asked}
 use Rattle.packets.specs.declared.Command.the-variants.{Initialise, Shutdown}
 use Rattle.packets.specs.Reading.{readOf}
-use Rattle.tables.specs.Tables.{Three}
-use Rattle.rules.specs.declared.Pod.{Pod}
 use Rattle.rules.specs.State.{soundPod}
-use Rattle.rules.specs.World.{World, Call, packet, Told, step, run}
+use Rattle.rules.specs.World.{World, Call, packet, Told, step, Point, run}
 use Rattle.rules.specs.History.{succeeded}
 
 -- the packet is an Initialise with these fields, and this world accepts it
@@ -51,8 +49,7 @@ pub record Asleep (v w : World) : Type 0 where
 
 -- what some calls tell, without the tables
 unfoldable pub tells : World → List Call → List Told
-tells w [] = []
-tells w (c ∷ cs) = step w c .told ∷ tells (step w c .world) cs
+tells w cs = map (λ (p : Point). p .told) (run w cs)
 
 -- "any two pasts since power-on, damage and refusals included": a call, or memory overwritten by anything
 pub data Event : Type 0 where

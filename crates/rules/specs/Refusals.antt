@@ -8,8 +8,9 @@ use lib.ListN.{length}
 use Rattle.blocks.specs.declared.Store.{Store}
 use Rattle.blocks.specs.declared.Store.the-variants.{Priority, Ordinary}
 use Rattle.blocks.specs.Stores.{capacityOf}
-use Rattle.tables.specs.declared.Table.the-variants.{Five, Six, Seven}
-use Rattle.tables.specs.Tables.{sizeOf, Three}
+use Rattle.tables.specs.Tables.{Three}
+-- tables of their exact sizes: "table 5 has 64 words, table 6 has 128, table 7 has 64"
+unfoldable pub use Rattle.tables.specs.Tables.{sizedOf as tablesSized}
 use Rattle.frames.specs.Samples.{boundedOf}
 use Rattle.rules.specs.declared.Pod.{Pod}
 use Rattle.rules.specs.declared.Refusal.{Refusal}
@@ -66,10 +67,6 @@ roomRow room = row 1 (ltb (length room) 260)
 unfoldable pub storeSized : Store → List ℕ → Bool
 storeSized Priority s = eqb (length s) 4096
 storeSized Ordinary s = eqb (length s) 32768
-
--- tables of their exact sizes: "table 5 has 64 words, table 6 has 128, table 7 has 64"
-unfoldable pub tablesSized : Three → Bool
-tablesSized t = eqb (length (t .five)) (sizeOf Five) && (eqb (length (t .six)) (sizeOf Six) && eqb (length (t .seven)) (sizeOf Seven))
 
 -- 2: "a lent store or table is not its exact size"
 abbrev pub allRow : List ℕ → List ℕ → Three → Row

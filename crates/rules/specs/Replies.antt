@@ -12,34 +12,21 @@ use Rattle.blocks.specs.declared.Store.the-variants.{Priority, Ordinary}
 use Rattle.packets.specs.declared.Fields.{Fields}
 use Rattle.packets.specs.declared.Command.the-variants as command
 use Rattle.packets.specs.declared.Parsed.{Parsed}
-use Rattle.packets.specs.declared.Parsed.the-variants.{Nothing, Error, Acknowledgement, Asked}
 use Rattle.packets.specs.declared.Report.{Report}
-use Rattle.packets.specs.Reading.{readOf}
 use Rattle.packets.specs.Answers.{errorAnswer, statusAnswer, valueAnswer, dataAnswer}
 use Rattle.params.specs.Rows.{ids, rowOf}
 use Rattle.params.specs.Rules.{isId, filter}
 use Rattle.rules.specs.declared.Exchange.{Exchange}
 use Rattle.rules.specs.declared.Exchange.the-variants.{Closed}
 use Rattle.rules.specs.State.{remainingOf, withRemaining, freshFields}
-use Rattle.rules.specs.Refusals.{bytes}
-use Rattle.rules.specs.World.{Call, power, packet, deadline, put, command, dataIn, dataOut, status, samples, byte, timeout, Told, told, isRefused}
-use Rattle.rules.specs.History.{Entry, succeeded, exchangeAfter, begins, receiveCode, acknowledged, waitingFrom, nothingWaits, valueFrom}
+use Rattle.rules.specs.World.{Call, Told, told, isRefused}
+use Rattle.rules.specs.History.{Entry, succeeded, byCall, byPacket, exchangeAfter, begins, receiveCode, acknowledged, waitingFrom, nothingWaits, valueFrom}
 
 -- ---- the fields, whether the pod is initialised, the parameters written
 
 -- the fields that an Initialise or an Update carries
 abbrev pub takenBy : Parsed → Fields → Fields
-takenBy Nothing f = f
-takenBy (Error first n) f = f
-takenBy (Acknowledgement first one) f = f
-takenBy (Asked (command.Initialise g)) f = g
-takenBy (Asked command.Status) f = f
-takenBy (Asked (command.Update g)) f = g
-takenBy (Asked (command.Write k u)) f = f
-takenBy (Asked (command.Read k)) f = f
-takenBy (Asked command.Priority) f = f
-takenBy (Asked command.Data) f = f
-takenBy (Asked command.Shutdown) f = f
+takenBy r f = byPacket (record { initialise = λ g. g; update = λ g. g; write = λ k u. f; shutdown = f; other = f }) r
 
 -- "the oldest block of that store is dropped and its remaining falls by 1"
 abbrev pub lessBy : Store → Parsed → Exchange → Fields → Fields
@@ -47,18 +34,10 @@ lessBy s r x f = cond (acknowledged s r x) (withRemaining s (remainingOf s f - 1
 
 -- the fields after a call, that exchange being open before it; power on has those "fresh from power"
 unfoldable pub fieldsBy : Call → Told → Exchange → Fields → Fields
-fieldsBy power t x f = cond (isRefused (t .said)) f freshFields
-fieldsBy (packet b room) t x f =
-    cond (succeeded t) (takenBy (readOf b) f) (cond (isRefused (t .said)) f (lessBy Priority (readOf b) x (lessBy Ordinary (readOf b) x f)))
-fieldsBy deadline t x f = f
-fieldsBy (put s b) t x f = f
-fieldsBy (command y) t x f = f
-fieldsBy (dataIn y) t x f = f
-fieldsBy dataOut t x f = f
-fieldsBy status t x f = f
-fieldsBy (samples k xs) t x f = f
-fieldsBy (byte b) t x f = f
-fieldsBy timeout t x f = f
+fieldsBy c t x f =
+    byCall (cond (isRefused (t .said)) f freshFields)
+    (λ r. cond (succeeded t) (takenBy r f) (cond (isRefused (t .said)) f (lessBy Priority r x (lessBy Ordinary r x f))))
+    f c
 
 -- by all of a history: the fields of the last accepted Initialise or Update, each remaining less the blocks of its store acknowledged since
 unfoldable pub fieldsFrom : Exchange → Fields → List Entry → Fields
@@ -67,31 +46,11 @@ fieldsFrom x f (e ∷ es) = fieldsFrom (exchangeAfter (e .call) (e .told) x) (fi
 
 -- an Initialise wakes the pod, a Shutdown puts it to sleep
 abbrev pub wakesBy : Parsed → Bool → Bool
-wakesBy Nothing a = a
-wakesBy (Error first n) a = a
-wakesBy (Acknowledgement first one) a = a
-wakesBy (Asked (command.Initialise g)) a = true
-wakesBy (Asked command.Status) a = a
-wakesBy (Asked (command.Update g)) a = a
-wakesBy (Asked (command.Write k u)) a = a
-wakesBy (Asked (command.Read k)) a = a
-wakesBy (Asked command.Priority) a = a
-wakesBy (Asked command.Data) a = a
-wakesBy (Asked command.Shutdown) a = false
+wakesBy r a = byPacket (record { initialise = λ g. true; update = λ g. a; write = λ k u. a; shutdown = false; other = a }) r
 
 -- and so only where it is answered without error; power on has "not initialised"
 unfoldable pub awakeBy : Call → Told → Bool → Bool
-awakeBy power t a = cond (isRefused (t .said)) a false
-awakeBy (packet b room) t a = cond (succeeded t) (wakesBy (readOf b) a) a
-awakeBy deadline t a = a
-awakeBy (put s b) t a = a
-awakeBy (command y) t a = a
-awakeBy (dataIn y) t a = a
-awakeBy dataOut t a = a
-awakeBy status t a = a
-awakeBy (samples k xs) t a = a
-awakeBy (byte b) t a = a
-awakeBy timeout t a = a
+awakeBy c t a = byCall (cond (isRefused (t .said)) a false) (λ r. cond (succeeded t) (wakesBy r a) a) a c
 
 -- whether the last of power on and the accepted Initialises and Shutdowns was an Initialise
 unfoldable pub awakeFrom : Bool → List Entry → Bool
@@ -100,31 +59,11 @@ awakeFrom a (e ∷ es) = awakeFrom (awakeBy (e .call) (e .told) a) es
 
 -- a write marks its id
 abbrev pub marksBy : ℕ → Parsed → Bool → Bool
-marksBy id Nothing m = m
-marksBy id (Error first n) m = m
-marksBy id (Acknowledgement first one) m = m
-marksBy id (Asked (command.Initialise g)) m = m
-marksBy id (Asked command.Status) m = m
-marksBy id (Asked (command.Update g)) m = m
-marksBy id (Asked (command.Write k u)) m = eqb k id || m
-marksBy id (Asked (command.Read k)) m = m
-marksBy id (Asked command.Priority) m = m
-marksBy id (Asked command.Data) m = m
-marksBy id (Asked command.Shutdown) m = m
+marksBy id r m = byPacket (record { initialise = λ g. m; update = λ g. m; write = λ k u. eqb k id || m; shutdown = m; other = m }) r
 
 -- and so only where it is answered without error
 unfoldable pub markBy : ℕ → Call → Told → Bool → Bool
-markBy id power t m = m
-markBy id (packet b room) t m = cond (succeeded t) (marksBy id (readOf b) m) m
-markBy id deadline t m = m
-markBy id (put s b) t m = m
-markBy id (command y) t m = m
-markBy id (dataIn y) t m = m
-markBy id dataOut t m = m
-markBy id status t m = m
-markBy id (samples k xs) t m = m
-markBy id (byte b) t m = m
-markBy id timeout t m = m
+markBy id c t m = byCall m (λ r. cond (succeeded t) (marksBy id r m) m) m c
 
 -- whether a parameter has an accepted write since Initialise
 unfoldable pub writtenFrom : ℕ → Bool → List Entry → Bool
@@ -132,10 +71,6 @@ writtenFrom id m [] = m
 writtenFrom id m (e ∷ es) = writtenFrom id (cond (begins (e .call) (e .told)) false (markBy id (e .call) (e .told) m)) es
 
 -- ---- what packets are answered
-
--- "An answer is written from the start of the answer room; the rest of the room is kept."
-abbrev pub answering : List ℕ → List ℕ → Told
-answering room answer = told (bytes (length answer)) (sets room 0 answer)
 
 -- "mode, flags 2, priority blocks waiting 2, ordinary blocks waiting 4, request 0, eight ids: the asked parameters not written
 -- since Initialise, rising, then zeros"

@@ -3,6 +3,8 @@
 use Prim.Native.Nat.{ℕ}
 use mathlib.Core.Bool.{Bool, true, false, cond}
 use mathlib.Core.List.{List, [], _∷_, _++_}
+use lib.ListN.{length}
+use lib.Seq.{sets}
 use Rattle.blocks.specs.declared.Store.{Store}
 use Rattle.blocks.specs.declared.Store.the-variants.{Priority, Ordinary}
 use Rattle.tables.specs.Tables.{Three}
@@ -56,6 +58,10 @@ pub record Told : Type 0 where
 
 abbrev pub told : Said → List ℕ → Told
 told s l = record { said = s; bytes = l }
+
+-- an answer told: its length, and "written from the start of the answer room; the rest of the room is kept"
+abbrev pub answering : List ℕ → List ℕ → Told
+answering room answer = told (bytes (length answer)) (sets room 0 answer)
 
 pub record Stepped : Type 0 where
   pub told : Told

@@ -12,9 +12,14 @@ use Rattle.tables.specs.declared.Table.{Table}
 use Rattle.tables.specs.declared.Transfer.{Transfer}
 use Rattle.tables.specs.declared.Transfer.the-variants.{Idle, Load}
 use Rattle.tables.specs.Tables.{numberOf, sizeOf, wordsOf, withTable}
-use Rattle.tables.specs.Port.{Tabled, tabled, withTransfer, withLoad, failed, dataCount, rightOf, storedIn, judgedOf, takenBy, dataInOf, writtenOf}
+use Rattle.tables.specs.Port.{Tabled, tabled, withTransfer, withLoad, failed, dataCount, rightOf, storedIn, judgedOf, takenBy, dataInOf}
 use Rattle.tables.proofs.Obeying.{taken-by}
 use Rattle.tables.proofs.Loading.{load-more, load-last}
+
+-- data words written one after the other
+unfoldable pub writtenOf : List ℕ → Tabled → Tabled
+writtenOf [] s = s
+writtenOf (x ∷ xs) s = writtenOf xs (dataInOf x s)
 
 -- a state whose load is k words along and holds l
 abbrev pub along : Table → ℕ → ℕ → List ℕ → Tabled → Tabled

@@ -17,12 +17,12 @@ use Rattle.tables.specs.declared.Transfer.{Transfer}
 use Rattle.tables.specs.declared.Transfer.the-variants.{Idle, Address, Load, Read}
 use Rattle.tables.specs.Tables.{Three, sizeOf, starts, placeOf, withPlace}
 use Rattle.tables.specs.Command.{heardOf}
-use Rattle.tables.specs.Port.{Tabled, tabled, answer, withError, withTransfer, withPlaces, withGiven, failed, isOpen, dataCount, beginsAt, startWords, closeOf, wrongWay, readFrom, readOf, restartOf, obeyOf, tablesAfter, commandOf, takenBy, dataInOf, writtenOf, givenBy, dataOutOf, statusOf}
+use Rattle.tables.specs.Port.{Tabled, tabled, answer, withError, withTransfer, withPlaces, withGiven, failed, isOpen, dataCount, beginsAt, startWords, closeOf, wrongWay, readFrom, readOf, restartOf, obeyOf, tablesAfter, commandOf, takenBy, dataInOf, givenBy, dataOutOf, statusOf}
 use Rattle.tables.proofs.Bool.{by-test}
 use Rattle.tables.proofs.Closing.{close-idle, close-open}
 use Rattle.tables.proofs.Reading.{read-past, read-taken}
 use Rattle.tables.proofs.Obeying.{obeyed, taken-by, given-by}
-use Rattle.tables.proofs.Gathering.{part-gathers, part-keeps}
+use Rattle.tables.proofs.Gathering.{writtenOf, part-gathers, part-keeps}
 
 -- any two outcomes that a promise allows are equal: each promise is an equation with one definition
 pub decided : (x a b : Tabled) → a ≡ x → b ≡ x → a ≡ b

@@ -12,9 +12,10 @@ use Rattle.tables.specs.declared.Order.the-variants.{Other, Stop, Writin
 use Rattle.tables.specs.declared.Transfer.the-variants.{Load, Read}
 use Rattle.tables.specs.Tables.{startTable, starts, withTable, withPlace}
 use Rattle.tables.specs.Command.{oddOnes, partsOf, orderOf, heardOf}
-use Rattle.tables.specs.Port.{tabled, failed, noPlaces, withTransfer, withPlaces, withLoad, startWords, startOf, closeOf, readFrom, readOf, obeyOf, tablesAfter, commandOf, rightOf, storedIn, judgedOf, loadOf, takenBy, dataInOf, writtenOf}
+use Rattle.tables.specs.Port.{tabled, failed, noPlaces, withTransfer, withPlaces, withLoad, startWords, startOf, closeOf, readFrom, readOf, obeyOf, tablesAfter, commandOf, rightOf, storedIn, judgedOf, loadOf, takenBy, dataInOf}
 use Rattle.tables.proofs.Ones.{ones-in}
 use Rattle.tables.proofs.Obeying.{obeyed}
+use Rattle.tables.proofs.Gathering.{writtenOf}
 
 -- a word's parts, its ones counted in sixteen steps
 abbrev counted : ℕ → Parts

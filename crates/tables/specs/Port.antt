@@ -1,7 +1,7 @@
 -- What each call of the table port does to its state and to the three tables.
 use Prim.Native.Nat.{ℕ, _+_, _-_}
 use mathlib.Core.Bool.{Bool, true, false, _&&_, _||_, cond}
-use mathlib.Core.List.{List, [], _∷_}
+use mathlib.Core.List.{List, _∷_}
 use lib.ListN.{getD, set, take, drop, replicate}
 use lib.Seq.{sets}
 use lib.Dec.{ltb, leb, eqb}
@@ -166,11 +166,6 @@ takenBy (Read t n k at) x s = tabled (wrongWay (s .words)) (s .tables)
 -- a data word written goes to the open transfer
 unfoldable pub dataInOf : ℕ → Tabled → Tabled
 dataInOf x s = takenBy (s .words .transfer) x s
-
--- data words written one after the other
-unfoldable pub writtenOf : List ℕ → Tabled → Tabled
-writtenOf [] s = s
-writtenOf (x ∷ xs) s = writtenOf xs (dataInOf x s)
 
 -- ---- a data word read
 
