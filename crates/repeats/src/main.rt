@@ -2,7 +2,8 @@
 //
 // Input is a line: a letter of the console's table, or `K` for the CRC of a message of 258 bytes, and bytes: how many
 // blocks wait in the ordinary store, the number of calls, high byte first, and what is handed in: a packet, or for the
-// table words two command words, one that is sent first and one that is repeated. The last answer is printed.
+// table words two command words, one that is sent first and one that is repeated. The last answer is printed, and `?`
+// for any other line.
 mod packets_in;
 mod pipe_bytes;
 mod setup;
@@ -10,10 +11,16 @@ mod table_words;
 
 use libc::STDIN_FILENO;
 use lines::Items;
+use rules::Answer;
+
+// Any other line.
+fn other() {
+    setup::print(b'?', Answer::Done);
+}
 
 fn order(letter: u8, given: &[u8]) {
     if given.len() < 3 {
-        return;
+        return other();
     }
     let waiting = number(0, given[0]) as usize;
     let calls = number(given[1], given[2]) as usize;
@@ -36,7 +43,7 @@ fn number(high: u8, low: u8) -> u16 {
 // The table word port, behind a command word.
 fn table_word(letter: u8, calls: usize, given: &[u8]) {
     if given.len() < 4 {
-        return;
+        return other();
     }
     let opening = number(given[0], given[1]);
     let word = number(given[2], given[3]);
@@ -46,7 +53,7 @@ fn table_word(letter: u8, calls: usize, given: &[u8]) {
         b'R' => table_words::data_out(opening, calls),
         b'S' => table_words::status_word(calls),
         b'D' => table_words::deadline(calls),
-        _ => {}
+        _ => other(),
     }
 }
 
@@ -57,10 +64,11 @@ fn main() {
     let line = &text[..n];
     let end = lines::line_end(line, 0);
     if end == 0 {
-        return;
+        return other();
     }
     let letter = line[0];
-    if let Items::Good(count) = lines::bytes_in(&line[1..end], &mut given) {
-        order(letter, lines::front(&given, count));
+    match lines::bytes_in(&line[1..end], &mut given) {
+        Items::Good(count) => order(letter, lines::front(&given, count)),
+        Items::Bad => other(),
     }
 }
