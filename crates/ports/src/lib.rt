@@ -18,41 +18,36 @@ pub struct Spoken {
     pub at: usize,
 }
 
-// A packet, and its answer: the first bytes of the room.
-fn packet<'a>(
-    pod: Pod,
-    bytes: &[u8],
-    room: &mut [u8; 260],
-    priority: &'a [u8; 4096],
-    ordinary: &'a [u8; 32768],
-    five: &mut [u16; 64],
-    six: &mut [u16; 128],
-    seven: &mut [u16; 64],
-    out: &mut [u8; 65536],
-    at: usize,
-) -> Spoken
-    requires { ⌜ at + 784 ≤ 65536 ⌝ }
-    ensures { λ r. ⌜ r .at ≤ at + 784 ⌝ }
-{
-    let called = pod::packet(pod, bytes, room, priority, ordinary, five, six, seven);
-    let next = called.pod;
-    let answer = called.answer;
-    Spoken {
-        pod: next,
-        at: put_packet(out, at, answer, room),
+// The letter behind which a call says what it says; `?` for a line that calls nothing.
+fn letter(line: Line) -> u8 {
+    match line {
+        Line::Deadline => 68,
+        Line::Put(_, _) => 66,
+        Line::Command(_) => 67,
+        Line::Data(_) => 87,
+        Line::Read => 82,
+        Line::Status => 83,
+        Line::Power => 90,
+        _ => 63,
     }
 }
 
-// What most calls say: done, a word, or why not.
-fn said(called: Called, letter: u8, out: &mut [u8; 65536], at: usize) -> Spoken
+// What a call says: of a packet the first bytes of the room, of any other done, a word, or why not.
+fn said(line: Line, called: Called, room: &[u8; 260], out: &mut [u8; 65536], at: usize) -> Spoken
     requires { ⌜ at + 784 ≤ 65536 ⌝ }
     ensures { λ r. ⌜ r .at ≤ at + 784 ⌝ }
 {
     let pod = called.pod;
     let answer = called.answer;
+    if let Line::Packet(_) = line {
+        return Spoken {
+            pod,
+            at: put_packet(out, at, answer, room),
+        };
+    }
     Spoken {
         pod,
-        at: put_answer(out, at, letter, answer),
+        at: put_answer(out, at, letter(line), answer),
     }
 }
 
@@ -95,40 +90,41 @@ fn piped(passed: Passed, letter: u8, out: &mut [u8; 65536], at: usize) -> Spoken
     }
 }
 
-// Any other line prints `?`.
-fn other(pod: Pod, out: &mut [u8; 65536], at: usize) -> Spoken
-    requires { ⌜ at + 784 ≤ 65536 ⌝ }
-    ensures { λ r. ⌜ r .at ≤ at + 784 ⌝ }
-{
-    Spoken {
-        pod,
-        at: lines::bare_line(out, at, 63),
-    }
-}
-
-// The table words' calls, and power; any other line prints `?`.
-fn table_call(
+// Every call but the samples' and the pipe's; any other line calls nothing.
+fn call(
     line: Line,
     pod: Pod,
+    bytes: &[u8; 65536],
+    room: &mut [u8; 260],
+    priority: &mut [u8; 4096],
+    ordinary: &mut [u8; 32768],
     five: &mut [u16; 64],
     six: &mut [u16; 128],
     seven: &mut [u16; 64],
-    out: &mut [u8; 65536],
-    at: usize,
-) -> Spoken
-    requires { ⌜ at + 784 ≤ 65536 ⌝ }
-    ensures { λ r. ⌜ r .at ≤ at + 784 ⌝ }
-{
+) -> Called {
     match line {
-        Line::Command(word) => said(pod::command_word(pod, word, five, six, seven), 67, out, at),
-        Line::Data(word) => said(pod::data_in(pod, word, five, six, seven), 87, out, at),
-        Line::Read => said(pod::data_out(pod, five, six, seven), 82, out, at),
-        Line::Power => said(pod::power_on(five, six, seven), 90, out, at),
-        _ => other(pod, out, at),
+        Line::Packet(n) => {
+            let read = lines::front(bytes, n);
+            pod::packet(pod, read, room, priority, ordinary, five, six, seven)
+        }
+        Line::Deadline => pod::deadline(pod),
+        Line::Put(which, n) => match which {
+            Store::Priority => pod::put(pod, which, priority, lines::front(bytes, n)),
+            Store::Ordinary => pod::put(pod, which, ordinary, lines::front(bytes, n)),
+        },
+        Line::Command(word) => pod::command_word(pod, word, five, six, seven),
+        Line::Data(word) => pod::data_in(pod, word, five, six, seven),
+        Line::Read => pod::data_out(pod, five, six, seven),
+        Line::Status => pod::status_word(pod),
+        Line::Power => pod::power_on(five, six, seven),
+        _ => Called {
+            answer: Answer::Done,
+            pod,
+        },
     }
 }
 
-// A line's call.
+// A line's call, and its answer.
 pub fn answer(
     line: Line,
     pod: Pod,
@@ -147,33 +143,15 @@ pub fn answer(
     ensures { λ r. ⌜ r .at ≤ at + 784 ⌝ }
 {
     match line {
-        Line::Packet(n) => packet(
-            pod,
-            lines::front(bytes, n),
-            room,
-            priority,
-            ordinary,
-            five,
-            six,
-            seven,
-            out,
-            at,
-        ),
-        Line::Deadline => said(pod::deadline(pod), 68, out, at),
-        Line::Put(which, n) => {
-            let block = lines::front(bytes, n);
-            match which {
-                Store::Priority => said(pod::put(pod, which, priority, block), 66, out, at),
-                Store::Ordinary => said(pod::put(pod, which, ordinary, block), 66, out, at),
-            }
-        }
-        Line::Status => said(pod::status_word(pod), 83, out, at),
         Line::Samples(check, n) => {
             let set = lines::front_words(words, n);
             shown(pod, pod::samples(pod, check, set), out, at)
         }
         Line::Byte(byte) => piped(pod::pipe_byte(pod, byte), 73, out, at),
         Line::Timeout => piped(pod::pipe_timeout(pod), 84, out, at),
-        _ => table_call(line, pod, five, six, seven, out, at),
+        _ => {
+            let called = call(line, pod, bytes, room, priority, ordinary, five, six, seven);
+            said(line, called, room, out, at)
+        }
     }
 }
