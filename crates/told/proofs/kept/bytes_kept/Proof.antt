@@ -1,22 +1,21 @@
--- `lent::bytes_kept` is safe and ends: what is left to look at falls.
+-- `kept::bytes_kept` is safe and ends: what is left to look at falls.
 -- Assumes nothing.
 use Prim.Native.Nat.{_≤_, _-_}
-use lib.ListN.{length}
 use borrow.Author.Needs.{needs}
-use Rattle.refusals.proofs.lent.bytes_kept.Statement.{statement}
-use Rattle.refusals.proofs.lent.bytes_kept.Tie as tie
+use Rattle.told.proofs.kept.bytes_kept.Statement.{statement}
+use Rattle.told.proofs.kept.bytes_kept.Tie as tie
 
 abbrev Inv-loop : tie.InvT-loop
-Inv-loop bytes kept₀ i₀ kept i = i ≤ length bytes
+Inv-loop bytes kept₀ i₀ kept i = i ≤ 32769
 
 abbrev μ-loop : tie.MeasureT-loop
-μ-loop bytes kept₀ i₀ kept i = length bytes - i
+μ-loop bytes kept₀ i₀ kept i = 32769 - i
 
 loop-holds : tie.Need-loop-holds Inv-loop μ-loop
 loop-holds c = search needs
 
-shared-slice-read-kept : tie.Need-shared-slice-read-kept Inv-loop μ-loop
-shared-slice-read-kept c = search needs
+array-read-kept : tie.Need-array-read-kept Inv-loop μ-loop
+array-read-kept c = search needs
 
 add-i : tie.Need-add-i Inv-loop μ-loop
 add-i c = search needs
@@ -33,4 +32,4 @@ returns c = search needs
 pub bytes-kept-spec : {M : Type 1} → statement M
 bytes-kept-spec =
     tie.close
-    (tie.spec Inv-loop μ-loop loop-holds shared-slice-read-kept add-i loop-less loop-again returns)
+    (tie.spec Inv-loop μ-loop loop-holds array-read-kept add-i loop-less loop-again returns)
