@@ -1,5 +1,4 @@
 // The pod's calls: each promises its definition in `rules`, whatever arrives.
-mod answer;
 mod bytes;
 mod camera;
 mod port;

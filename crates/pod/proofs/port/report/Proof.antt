@@ -1,10 +1,10 @@
--- `pod::answer::report` meets its contract: what waits fits. Assumes nothing.
+-- `pod::port::report` meets its contract: what waits fits. Assumes nothing.
 use native.Mathlib.Omega.{arith}
 use Rattle.blocks.proofs.Places.{bounds}
 use Rattle.rules.specs.Obey.{reportOf}
 use borrow.Author.Needs.{needs}
-use Rattle.pod.proofs.answer.report.Statement.{statement}
-use Rattle.pod.proofs.answer.report.Tie as tie
+use Rattle.pod.proofs.port.report.Statement.{statement}
+use Rattle.pod.proofs.port.report.Tie as tie
 
 missing-requires : tie.Need-missing-requires
 missing-requires c κs = search needs

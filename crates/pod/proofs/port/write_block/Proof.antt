@@ -1,10 +1,10 @@
--- `pod::answer::write_block` meets its contract: the oldest block is whole. Assumes nothing.
+-- `pod::port::write_block` meets its contract: the oldest block is whole. Assumes nothing.
 use mathlib.Core.Path.{ap, _∙_}
 use lib.ListN.{length}
 use Rattle.pod.proofs.AnswerLaws.{block-whole}
 use borrow.Author.Needs.{needs}
-use Rattle.pod.proofs.answer.write_block.Statement.{statement}
-use Rattle.pod.proofs.answer.write_block.Tie as tie
+use Rattle.pod.proofs.port.write_block.Statement.{statement}
+use Rattle.pod.proofs.port.write_block.Tie as tie
 
 ring-of-requires : tie.Need-ring-of-requires
 ring-of-requires c κs = search needs

@@ -1,4 +1,4 @@
--- `pod::answer::write_reply` meets its contract: reply by reply. Assumes nothing.
+-- `pod::port::write_reply` meets its contract: reply by reply. Assumes nothing.
 use mathlib.Core.Path.{_≡_, ap, _∙_}
 use Prim.Native.Nat.{ℕ}
 use mathlib.Core.List.{List}
@@ -12,8 +12,8 @@ use Rattle.packets.specs.Answers.{valueAnswer}
 use Rattle.rules.specs.Calls.{replyBytes}
 use Rattle.pod.proofs.AnswerLaws.{ringed-at}
 use borrow.Author.Needs.{needs}
-use Rattle.pod.proofs.answer.write_reply.Statement.{statement}
-use Rattle.pod.proofs.answer.write_reply.Tie as tie
+use Rattle.pod.proofs.port.write_reply.Statement.{statement}
+use Rattle.pod.proofs.port.write_reply.Tie as tie
 
 enum-told : tie.Need-enum-told
 enum-told c = search needs
