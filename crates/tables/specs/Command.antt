@@ -1,6 +1,7 @@
 -- The command word: its parts, and what it asks for.
 use Prim.Native.Nat.{ℕ, _/_, _%_, _^_}
 use mathlib.Core.Bool.{Bool, not, _&&_, cond}
+use mathlib.Core.List.{List, [], _∷_}
 use lib.Dec.{leb, eqb}
 use lib.Count.{ones}
 use Rattle.tables.specs.declared.Table.{Table}
@@ -8,6 +9,7 @@ use Rattle.tables.specs.declared.Table.the-variants.{Five, Six, Seven}
 use Rattle.tables.specs.declared.Parts.{Parts}
 use Rattle.tables.specs.declared.Order.{Order}
 use Rattle.tables.specs.declared.Order.the-variants.{Other, Stop, Restart, Next, Writing, Reading}
+use Rattle.tables.specs.Tables.{tableNumber}
 
 -- the count of ones is odd
 unfoldable pub oddOnes : ℕ → Bool
@@ -28,19 +30,19 @@ abbrev pub writes : Parts → ℕ → ℕ → Bool
 writes p c n = not (p .reads) && (eqb (p .command) c && eqb (p .n) n)
 
 -- N 4 to 64
-abbrev pub allowed : ℕ → Bool
-allowed n = leb 4 n && leb n 64
+abbrev pub lengthAllowed : ℕ → Bool
+lengthAllowed n = leb 4 n && leb n 64
 
 -- a table writing or reading
-abbrev pub transferOf : Table → Parts → Order
-transferOf t p = cond (p .reads) (Reading t (p .n)) (Writing t (p .n))
+abbrev pub transferAsked : Table → Parts → Order
+transferAsked t p = cond (p .reads) (Reading t (p .n)) (Writing t (p .n))
 
 -- 5, 6, 7 writing or reading
-abbrev pub tableOrder : Parts → Order
-tableOrder p =
-    cond (eqb (p .command) 5) (transferOf Five p)
-    (cond (eqb (p .command) 6) (transferOf Six p)
-    (cond (eqb (p .command) 7) (transferOf Seven p)
+abbrev pub tableAsked : Parts → Order
+tableAsked p =
+    cond (eqb (p .command) 5) (transferAsked Five p)
+    (cond (eqb (p .command) 6) (transferAsked Six p)
+    (cond (eqb (p .command) 7) (transferAsked Seven p)
     Other))
 
 -- accepted: the count of ones is odd, and command 0 writing, N 0 or 1; 1 writing, N 1; 5, 6, 7 writing or reading, N 4 to 64
@@ -50,9 +52,18 @@ orderOf p =
     (cond (writes p 0 0) Stop
     (cond (writes p 0 1) Restart
     (cond (writes p 1 1) Next
-    (cond (allowed (p .n)) (tableOrder p)
+    (cond (lengthAllowed (p .n)) (tableAsked p)
     Other))))
 
 -- any while not initialised is not accepted
-unfoldable pub heardOf : Bool → ℕ → Order
-heardOf on w = cond on (orderOf (partsOf w)) Other
+unfoldable pub orderHeard : Bool → ℕ → Order
+orderHeard on w = cond on (orderOf (partsOf w)) Other
+
+-- an order in document 01's numbers: none where it is not accepted, else the direction (1 is read), the command and N
+unfoldable pub orderSaid : Order → List ℕ
+orderSaid Other = []
+orderSaid Stop = 0 ∷ 0 ∷ 0 ∷ []
+orderSaid Restart = 0 ∷ 0 ∷ 1 ∷ []
+orderSaid Next = 0 ∷ 1 ∷ 1 ∷ []
+orderSaid (Writing t n) = 0 ∷ tableNumber t ∷ n ∷ []
+orderSaid (Reading t n) = 1 ∷ tableNumber t ∷ n ∷ []

@@ -9,16 +9,16 @@ use Rattle.tables.specs.declared.Table.the-variants.{Five, Six, Seven}
 use Rattle.tables.specs.declared.Places.{Places}
 
 -- a table's number is the command that loads and reads it
-abbrev pub numberOf : Table → ℕ
-numberOf Five = 5
-numberOf Six = 6
-numberOf Seven = 7
+abbrev pub tableNumber : Table → ℕ
+tableNumber Five = 5
+tableNumber Six = 6
+tableNumber Seven = 7
 
 -- table 5 has 64 words, table 6 has 128, table 7 has 64
-abbrev pub sizeOf : Table → ℕ
-sizeOf Five = 64
-sizeOf Six = 128
-sizeOf Seven = 64
+abbrev pub tableSize : Table → ℕ
+tableSize Five = 64
+tableSize Six = 128
+tableSize Seven = 64
 
 -- tables 5 and 6 all 0; table 7 word i is 256 times i
 abbrev pub startWord : Table → ℕ → ℕ
@@ -33,7 +33,7 @@ listed f (suc n) = listed f n ++ (f n ∷ [])
 
 -- a table at its start
 unfoldable pub startTable : Table → List ℕ
-startTable t = listed (startWord t) (sizeOf t)
+startTable t = listed (startWord t) (tableSize t)
 
 -- the words of the three tables
 pub record Three : Type 0 where
@@ -43,14 +43,6 @@ pub record Three : Type 0 where
 
 abbrev pub three : List ℕ → List ℕ → List ℕ → Three
 three a b c = record { five = a; six = b; seven = c }
-
--- each table is its exact size
-unfoldable pub sizedOf : Three → Bool
-sizedOf s = eqb (length (s .five)) (sizeOf Five) && (eqb (length (s .six)) (sizeOf Six) && eqb (length (s .seven)) (sizeOf Seven))
-
--- all three at their starts
-abbrev pub starts : Three
-starts = three (startTable Five) (startTable Six) (startTable Seven)
 
 -- one table of the three
 abbrev pub wordsOf : Table → Three → List ℕ
@@ -64,14 +56,23 @@ withTable Five l s = three l (s .six) (s .seven)
 withTable Six l s = three (s .five) l (s .seven)
 withTable Seven l s = three (s .five) (s .six) l
 
+-- each table is its exact size
+unfoldable pub tablesSized : Three → Bool
+tablesSized s =
+    eqb (length (s .five)) (tableSize Five) && (eqb (length (s .six)) (tableSize Six) && eqb (length (s .seven)) (tableSize Seven))
+
+-- all three at their starts
+abbrev pub starts : Three
+starts = three (startTable Five) (startTable Six) (startTable Seven)
+
 -- the read place of a table
-abbrev pub placeOf : Table → Places → ℕ
-placeOf Five p = p .five
-placeOf Six p = p .six
-placeOf Seven p = p .seven
+abbrev pub readPlace : Table → Places → ℕ
+readPlace Five p = p .five
+readPlace Six p = p .six
+readPlace Seven p = p .seven
 
 -- the places with another for one table
-abbrev pub withPlace : Table → ℕ → Places → Places
-withPlace Five k p = record { five = k; six = p .six; seven = p .seven }
-withPlace Six k p = record { five = p .five; six = k; seven = p .seven }
-withPlace Seven k p = record { five = p .five; six = p .six; seven = k }
+abbrev pub withReadPlace : Table → ℕ → Places → Places
+withReadPlace Five k p = record { five = k; six = p .six; seven = p .seven }
+withReadPlace Six k p = record { five = p .five; six = k; seven = p .seven }
+withReadPlace Seven k p = record { five = p .five; six = p .six; seven = k }

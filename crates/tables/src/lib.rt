@@ -29,21 +29,25 @@ pub enum Table {
     Seven,
 }
 
-// The open transfer: none, the word of the next read address, a load of n words that is k words along, or a read of n
-// words that is k words along and whose data words start at `start`.
+// What an open load and an open read have in common: n words, of a table.
+pub struct Header {
+    pub table: Table,
+    pub n: u8,
+}
+
+// The open transfer: none, the word of the next read address, a load that is k words along, or a read that is k words
+// along and whose data words start at `start`.
 pub enum Transfer {
     Idle,
     Address,
     Load {
-        table: Table,
-        n: usize,
-        k: usize,
+        header: Header,
+        k: u8,
     },
     Read {
-        table: Table,
-        n: usize,
-        k: usize,
-        start: usize,
+        header: Header,
+        k: u8,
+        start: u8,
     },
 }
 
@@ -55,16 +59,15 @@ pub enum Given {
 
 // The read place of each table.
 pub struct Places {
-    pub five: usize,
-    pub six: usize,
-    pub seven: usize,
+    pub five: u8,
+    pub six: u8,
+    pub seven: u8,
 }
 
-// The state of the port. `load` holds the words of an open load as far as it has come.
+// The state of the port. The words of an open load are lent, as the tables are.
 pub struct Words {
     pub error: bool,
     pub transfer: Transfer,
-    pub load: [u16; 64],
     pub places: Places,
     pub given: Given,
 }
@@ -89,8 +92,8 @@ pub enum Order {
     Stop,
     Restart,
     Next,
-    Writing { table: Table, n: usize },
-    Reading { table: Table, n: usize },
+    Writing { table: Table, n: u8 },
+    Reading { table: Table, n: u8 },
 }
 
 // Whether the state is within its bounds.
