@@ -8,7 +8,7 @@ use mathlib.Core.List.{List, [], _∷_, _++_}
 use lib.ListN.{length, drop, getD}
 use lib.Seq.{sets, length-sets}
 use Rattle.blocks.specs.declared.Ring.{Ring}
-use Rattle.blocks.specs.Stores.{soundRing, emptyRing, placeOf, blockAt, blocksFrom, blocksIn, oldestOf, putRing, putStore, droppedRing}
+use Rattle.blocks.specs.Stores.{soundRing, emptyRing, placeBehind, blockAt, blocksFrom, blocksIn, oldestOf, putRing, putStore, droppedRing}
 use Rattle.blocks.proofs.Places.{bounds, within, place-in, place-next, place-apart, place-all}
 use Rattle.blocks.proofs.Line.{from-length, from-at, from-more, from-same, from-drop, from-first}
 use Rattle.blocks.proofs.Bytes.{sets-before, sets-behind, block-length, block-same, block-there, block-other}
@@ -49,18 +49,18 @@ oldest-at n r s h = from-first n s (r .oldest) (r .waiting) h
 
 module _ (n : ℕ) (r : Ring) (s : List ℕ) (ok : soundRing n r ≡ true) (size : length s ≡ n * 256) where
   -- the oldest's place and each behind it are within the store
-  stands : (k : ℕ) → k ≤ n → placeOf n (r .oldest) k * 256 + 256 ≤ length s
+  stands : (k : ℕ) → k ≤ n → placeBehind n (r .oldest) k * 256 + 256 ≤ length s
   stands k hk = omega (arith, place-in n (r .oldest) (bounds n r ok .0) k hk)
 
   -- the k-th block that waits is the one k places behind the oldest
-  pub block-k : (k : ℕ) → k < r .waiting → getD (blocksIn n r s) k [] ≡ blockAt s (placeOf n (r .oldest) k)
+  pub block-k : (k : ℕ) → k < r .waiting → getD (blocksIn n r s) k [] ≡ blockAt s (placeBehind n (r .oldest) k)
   unfolding blocksIn
   block-k k h = let b = bounds n r ok in from-at n s (r .oldest) (r .waiting) k (b .0) (b .1) h
 
   -- each block that waits has 256 bytes
   pub each-whole : (k : ℕ) → k < r .waiting → length (getD (blocksIn n r s) k []) ≡ 256
   each-whole k h =
-      ap length (block-k k h) ∙ block-length s (placeOf n (r .oldest) k) (stands k (omega (arith, bounds n r ok .1)))
+      ap length (block-k k h) ∙ block-length s (placeBehind n (r .oldest) k) (stands k (omega (arith, bounds n r ok .1)))
 
   -- so has the oldest
   pub oldest-whole : 0 < r .waiting → length (oldestOf n r s) ≡ 256
@@ -69,7 +69,7 @@ module _ (n : ℕ) (r : Ring) (s : List ℕ) (ok : soundRing n r ≡ true) (size
 
   -- stale bytes do not enter: another store of the size that agrees on the bytes of the waiting blocks has the same blocks waiting
   pub stale-apart : (t : List ℕ) → length t ≡ n * 256
-      → ((k j : ℕ) → k < r .waiting → j < 256 → getD s (placeOf n (r .oldest) k * 256 + j) 0 ≡ getD t (placeOf n (r .oldest) k * 256 + j) 0)
+      → ((k j : ℕ) → k < r .waiting → j < 256 → getD s (placeBehind n (r .oldest) k * 256 + j) 0 ≡ getD t (placeBehind n (r .oldest) k * 256 + j) 0)
       → blocksIn n r s ≡ blocksIn n r t
   unfolding blocksIn
   stale-apart t ht f =
@@ -77,7 +77,7 @@ module _ (n : ℕ) (r : Ring) (s : List ℕ) (ok : soundRing n r ≡ true) (size
       from-same n s t (r .oldest) (r .waiting) (b .0) (b .1)
       (λ k hk.
       let inside = stands k (omega (arith, b .1)) in
-      block-same s t (placeOf n (r .oldest) k) inside (omega (arith, inside)) (λ j hj. f k j hk hj))
+      block-same s t (placeBehind n (r .oldest) k) inside (omega (arith, inside)) (λ j hj. f k j hk hj))
 
 -- ---- rings
 
@@ -115,14 +115,14 @@ unfolding putStore
 put-length n r s b = simp length-sets
 
 -- a put changes no byte before its block ..
-pub put-before : (n : ℕ) (r : Ring) (s b : List ℕ) (i : ℕ) → i < placeOf n (r .oldest) (r .waiting) * 256 → getD (putStore n r s b) i 0 ≡ getD s i 0
+pub put-before : (n : ℕ) (r : Ring) (s b : List ℕ) (i : ℕ) → i < placeBehind n (r .oldest) (r .waiting) * 256 → getD (putStore n r s b) i 0 ≡ getD s i 0
 unfolding putStore
-put-before n r s b i h = sets-before b s (placeOf n (r .oldest) (r .waiting) * 256) i h
+put-before n r s b i h = sets-before b s (placeBehind n (r .oldest) (r .waiting) * 256) i h
 
 -- .. and none behind it
-pub put-behind : (n : ℕ) (r : Ring) (s b : List ℕ) (i : ℕ) → placeOf n (r .oldest) (r .waiting) * 256 + length b ≤ i → getD (putStore n r s b) i 0 ≡ getD s i 0
+pub put-behind : (n : ℕ) (r : Ring) (s b : List ℕ) (i : ℕ) → placeBehind n (r .oldest) (r .waiting) * 256 + length b ≤ i → getD (putStore n r s b) i 0 ≡ getD s i 0
 unfolding putStore
-put-behind n r s b i h = sets-behind b s (placeOf n (r .oldest) (r .waiting) * 256) i h
+put-behind n r s b i h = sets-behind b s (placeBehind n (r .oldest) (r .waiting) * 256) i h
 
 -- a put adds its block behind the others
 pub put-appends : (n : ℕ) (r : Ring) (s b : List ℕ) → soundRing n r ≡ true → r .waiting < n → length s ≡ n * 256 → length b ≡ 256
@@ -132,11 +132,11 @@ put-appends n r s b ok room size whole =
     let i = r .oldest in
     let m = r .waiting in
     let h : i < n = bounds n r ok .0 in
-    let at = placeOf n i m in
+    let at = placeBehind n i m in
     let t = sets s (at * 256) b in
     let inside = stands n r s ok size in
     let kept = from-same n t s i m h (omega arith)
-    (λ k hk. block-other s at b (inside m (omega arith)) whole (placeOf n i k) (inside k (omega arith)) (place-apart n i h k m hk room)) in
+    (λ k hk. block-other s at b (inside m (omega arith)) whole (placeBehind n i k) (inside k (omega arith)) (place-apart n i h k m hk room)) in
     ap (blocksFrom n t i) (add-one m)
     ∙ from-more n t i m h room
     ∙ rw (kept, block-there s at b (inside m (omega arith)) whole)
@@ -145,12 +145,12 @@ put-appends n r s b ok room size whole =
 
 -- after a drop from a full store, the next put goes where the dropped block stood
 pub room-again : (n : ℕ) (r : Ring) → soundRing n r ≡ true → r .waiting ≡ n
-    → placeOf n (droppedRing n r .oldest) (droppedRing n r .waiting) ≡ r .oldest
+    → placeBehind n (droppedRing n r .oldest) (droppedRing n r .waiting) ≡ r .oldest
 unfolding droppedRing
 room-again n r ok full =
     let h : r .oldest < n = bounds n r ok .0 in
     let past : r .waiting - 1 + 1 ≡ n = omega arith in
-    place-next n (r .oldest) h (r .waiting - 1) (omega arith) ∙ ap (placeOf n (r .oldest)) past ∙ place-all n (r .oldest) h
+    place-next n (r .oldest) h (r .waiting - 1) (omega arith) ∙ ap (placeBehind n (r .oldest)) past ∙ place-all n (r .oldest) h
 
 -- a drop and then a put: the first block has gone, and the new one waits behind the others, however full the store was
 pub freed : (n : ℕ) (r : Ring) (s b : List ℕ) → soundRing n r ≡ true → 0 < r .waiting → length s ≡ n * 256 → length b ≡ 256

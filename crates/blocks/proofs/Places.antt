@@ -6,7 +6,7 @@ use mathlib.Core.Bool.{Bool, true, false, _&&_, false≢true}
 use lib.Dec.{ltb, leb}
 use borrow.Author.Tests.{ltb-true, ltb-false, leb-true, lt-ltb, le-ltb, le-leb}
 use Rattle.blocks.specs.declared.Ring.{Ring}
-use Rattle.blocks.specs.Stores.{soundRing, placeOf}
+use Rattle.blocks.specs.Stores.{soundRing, placeBehind}
 
 both : (a b : Bool) → (a && b) ≡ true → (a ≡ true) × (b ≡ true)
 both true b h = (refl, h)
@@ -29,21 +29,21 @@ pub split {ℓ} : {C : Type ℓ} (b : Bool) → (b ≡ true → C) → (b ≡ fa
 split true f g = f refl
 split false f g = g refl
 
-pub place-on : (n i k : ℕ) → i + k < n → placeOf n i k ≡ i + k
-unfolding placeOf
+pub place-on : (n i k : ℕ) → i + k < n → placeBehind n i k ≡ i + k
+unfolding placeBehind
 place-on n i k h = simp (lt-ltb _ _ h)
 
-pub place-round : (n i k : ℕ) → n ≤ i + k → placeOf n i k ≡ i + k - n
-unfolding placeOf
+pub place-round : (n i k : ℕ) → n ≤ i + k → placeBehind n i k ≡ i + k - n
+unfolding placeBehind
 place-round n i k h = simp (le-ltb _ _ h)
 
 -- only the sum counts
-place-sum : (n i k j m : ℕ) → i + k ≡ j + m → placeOf n i k ≡ placeOf n j m
-unfolding placeOf
+place-sum : (n i k j m : ℕ) → i + k ≡ j + m → placeBehind n i k ≡ placeBehind n j m
+unfolding placeBehind
 place-sum n i k j m e = rw e
 
 -- a place is where it is in one of two ways: further on, or round the end
-pub by-place {ℓ} : {C : Type ℓ} (n i k : ℕ) → (i + k < n → placeOf n i k ≡ i + k → C) → (n ≤ i + k → placeOf n i k ≡ i + k - n → C) → C
+pub by-place {ℓ} : {C : Type ℓ} (n i k : ℕ) → (i + k < n → placeBehind n i k ≡ i + k → C) → (n ≤ i + k → placeBehind n i k ≡ i + k - n → C) → C
 by-place n i k f g =
     split (ltb (i + k) n)
     (λ e. let h = ltb-true (i + k) n e in f h (place-on n i k h))
@@ -51,27 +51,27 @@ by-place n i k f g =
 
 module _ (n i : ℕ) (h : i < n) where
   -- no place behind a place is outside of the store
-  pub place-in : (k : ℕ) → k ≤ n → placeOf n i k < n
+  pub place-in : (k : ℕ) → k ≤ n → placeBehind n i k < n
   place-in k hk = by-place n i k (λ a e. omega arith) (λ a e. omega arith)
 
-  pub place-none : placeOf n i 0 ≡ i
+  pub place-none : placeBehind n i 0 ≡ i
   place-none = by-place n i 0 (λ a e. omega arith) (λ a e. omega arith)
 
   -- one place on, and then k places, is k + 1 places on
-  pub place-next : (k : ℕ) → k < n → placeOf n (placeOf n i 1) k ≡ placeOf n i (k + 1)
+  pub place-next : (k : ℕ) → k < n → placeBehind n (placeBehind n i 1) k ≡ placeBehind n i (k + 1)
   place-next k hk =
-      let j = placeOf n i 1 in
+      let j = placeBehind n i 1 in
       by-place n i 1
       (λ a e. place-sum n j k i (k + 1) (omega arith))
       (λ a e. omega (arith, place-on n j k (omega arith), place-round n i (k + 1) (omega arith)))
 
   -- fewer than n places on, no place comes twice
-  pub place-apart : (j k : ℕ) → j < k → k < n → placeOf n i j ≡ placeOf n i k → ⊥
+  pub place-apart : (j k : ℕ) → j < k → k < n → placeBehind n i j ≡ placeBehind n i k → ⊥
   place-apart j k hj hk e =
       by-place n i j
       (λ a ea. by-place n i k (λ b eb. omega arith) (λ b eb. omega arith))
       (λ a ea. by-place n i k (λ b eb. omega arith) (λ b eb. omega arith))
 
   -- n places on is the place itself
-  pub place-all : placeOf n i n ≡ i
+  pub place-all : placeBehind n i n ≡ i
   place-all = by-place n i n (λ a e. omega arith) (λ a e. omega arith)

@@ -4,7 +4,7 @@ ghost use mathlib.Core.Bool.{true};
 ghost use Prim.Native.Nat.{_+_, _*_, _<_, _≤_};
 ghost use lib.ListN.{length};
 ghost use lib.Seq.{sets};
-ghost use Rattle.blocks.specs.Stores.{capacityOf, storeOf, soundRing, emptyRing, placeOf, blockAt, oldestOf, putRing, putStore, droppedRing};
+ghost use Rattle.blocks.specs.Stores.{capacityOf, storeSized, storeOf, soundRing, emptyRing, placeBehind, blockAt, oldestOf, putRing, putStore, droppedRing};
 
 // Which of the two stores.
 pub enum Store {
@@ -31,6 +31,13 @@ pub fn capacity(which: Store) -> usize
     }
 }
 
+// Has what is lent as a store the store's size?
+pub fn sized(which: Store, store: &[u8]) -> bool
+    ensures { λ r. ⌜ r ≡ storeSized which (now (store .entry)) ⌝ }
+{
+    store.len() == capacity(which) * BLOCK
+}
+
 // Nothing waits.
 pub fn empty() -> Ring
     ensures { λ r. ⌜ r ≡ emptyRing ⌝ }
@@ -51,7 +58,7 @@ pub fn sound(capacity: usize, ring: Ring) -> bool
 // The place that is k places behind another. No sum passes the capacity, so none can wrap.
 fn place(capacity: usize, from: usize, k: usize) -> usize
     requires { ⌜ (from < capacity) × (k ≤ capacity) ⌝ }
-    ensures { λ r. ⌜ r ≡ placeOf capacity from k ⌝ }
+    ensures { λ r. ⌜ r ≡ placeBehind capacity from k ⌝ }
 {
     let ahead = capacity - from;
     if k < ahead { from + k } else { k - ahead }

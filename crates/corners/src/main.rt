@@ -3,6 +3,7 @@
 use frames::Frames;
 use libc::STDOUT_FILENO;
 use pipe::Input;
+use pipe::Pipe;
 ghost use Prim.Native.Nat.{_≤_, _<_};
 
 // Eight bytes as pairs of digits, a space after each, from place `at` of a line.
@@ -20,10 +21,10 @@ fn put(line: [u8; 48], at: usize, bytes: [u8; 8]) -> [u8; 48]
 
 // Writes the two frames as a line.
 fn write(f: Frames) {
-    let three = f.three;
-    let fortyseven = f.fortyseven;
-    let half = put([32; 48], 0, three);
-    let mut line = put(half, 24, fortyseven);
+    let an03 = f.an03;
+    let an47 = f.an47;
+    let half = put([32; 48], 0, an03);
+    let mut line = put(half, 24, an47);
     line[47] = 10;
     io::write_all(STDOUT_FILENO, &line);
 }
@@ -40,7 +41,8 @@ fn show(samples: &[u16], input: Input, initialised: bool, selfcheck: u8) {
         return;
     }
     if frames::bounded(samples) {
-        write(frames::two_frames(samples, input, initialised, selfcheck));
+        let pipe = Pipe { input };
+        write(frames::two_frames(samples, pipe, initialised, selfcheck));
     } else {
         io::write_all(STDOUT_FILENO, b"over\n");
     }

@@ -6,7 +6,7 @@ use Prim.Native.Nat.{ℕ, _+_, _*_, _/_, _%_, _^_, _<_}
 use native.Mathlib.Omega.{arith}
 use lib.Bits.{bitXor, xor-zero-r}
 use lib.Pow.{high, low}
-use Rattle.crc.specs.Crc.{poly, leaving, bitIn, bits, run, crcFrom}
+use Rattle.crc.specs.Crc.{poly, leaving, bitIn, bits, bitsIn, crcFrom}
 use Rattle.crc.specs.Fold.{bytesOf, fold}
 use Rattle.crc.proofs.Linear.{Linear, lin-down, lin-low, lin-up, lin-sum, lin-then, basis}
 use Rattle.crc.proofs.Register.{byteIn, byteIn-xor, from-one}
@@ -48,7 +48,7 @@ byteIn-lin : Linear (λ n. byteIn (n / 2 ^ 8) (n % 2 ^ 8))
 byteIn-lin a b = ap₂ byteIn (lin-down 8 a b) (lin-low 8 a b) ∙ byteIn-xor (a / 2 ^ 8) (b / 2 ^ 8) (a % 2 ^ 8) (b % 2 ^ 8)
 
 both-at : (n : ℕ) → n < 2 ^ 24 → shifted (n / 2 ^ 8) (mixed (top n)) ≡ byteIn (n / 2 ^ 8) (n % 2 ^ 8)
-unfolding byteIn crcFrom run bits bitIn leaving poly
+unfolding byteIn crcFrom bitsIn bits bitIn leaving poly
 both-at = basis (λ n. shifted (n / 2 ^ 8) (mixed (top n))) (λ n. byteIn (n / 2 ^ 8) (n % 2 ^ 8)) shifted-lin byteIn-lin 24 tt
 
 pub by-shifts : (c b : ℕ) → c < 2 ^ 16 → b < 2 ^ 8 → shifted c (mixed (bitXor (c / 2 ^ 8) b)) ≡ crcFrom c (b ∷ [])
@@ -92,12 +92,12 @@ zeros-lin n a b = both-xor n a b 0 0
 
 -- two zero bytes more, by the shifts of `two`
 raised : (s : ℕ) → s < 2 ^ 16 → rest 1 (quotient 1 s) ≡ crcFrom s (bytesOf 2 0)
-unfolding bytesOf crcFrom run bits bitIn leaving poly
+unfolding bytesOf crcFrom bitsIn bits bitIn leaving poly
 raised = basis (λ s. rest 1 (quotient 1 s)) (λ s. crcFrom s (bytesOf 2 0)) (raised-lin 1) (zeros-lin 2) 16 tt
 
 -- eight zero bytes more, by the shifts of `lift`
 pub lifted : (s : ℕ) → s < 2 ^ 64 → fold (rest 4 (quotient 4 s)) ≡ crcFrom (fold s) (bytesOf 8 0)
-unfolding fold bytesOf crcFrom run bits bitIn leaving poly
+unfolding fold bytesOf crcFrom bitsIn bits bitIn leaving poly
 lifted =
     basis (λ s. fold (rest 4 (quotient 4 s))) (λ s. crcFrom (fold s) (bytesOf 8 0))
     (lin-then (λ s. rest 4 (quotient 4 s)) fold (raised-lin 4) fold-lin)
@@ -105,7 +105,7 @@ lifted =
 
 -- two bytes enter an empty register as they would stand in a full one
 entered : (w : ℕ) → w < 2 ^ 16 → crcFrom 0 (bytesOf 2 w) ≡ crcFrom w (bytesOf 2 0)
-unfolding bytesOf crcFrom run bits bitIn leaving poly
+unfolding bytesOf crcFrom bitsIn bits bitIn leaving poly
 entered = basis (λ w. crcFrom 0 (bytesOf 2 w)) (λ w. crcFrom w (bytesOf 2 0)) (λ a b. both-xor 2 0 0 a b) (zeros-lin 2) 16 tt
 
 pub two-more : (c w : ℕ) → c < 2 ^ 16 → w < 2 ^ 16 → rest 1 (quotient 1 (bitXor c w)) ≡ crcFrom c (bytesOf 2 w)
@@ -123,5 +123,5 @@ eight-more s r w e = fold-lin r w ∙ ap (λ (x : ℕ). bitXor x (fold w)) e ∙
 
 -- what stands in it at the start
 pub started : fold 33999 ≡ 65535
-unfolding fold bytesOf crcFrom run bits bitIn leaving poly
+unfolding fold bytesOf crcFrom bitsIn bits bitIn leaving poly
 started = refl

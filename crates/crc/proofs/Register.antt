@@ -6,7 +6,7 @@ use Prim.Native.Nat.{ℕ, zero, suc, _*_, _/_, _%_, _^_, _<_}
 use native.Mathlib.Nat.{mod-lt}
 use native.Mathlib.Omega.{arith}
 use lib.Bits.{bitXor, xor-shr, xor-mod, xor-lt}
-use Rattle.crc.specs.Crc.{poly, leaving, bitIn, bit, bits, run, crcFrom}
+use Rattle.crc.specs.Crc.{poly, leaving, bitIn, bit, bits, bitsIn, crcFrom}
 use Rattle.crc.proofs.Xor.{xor-four}
 use Rattle.crc.proofs.Linear.{lin-up}
 
@@ -15,7 +15,7 @@ unfoldable pub byteIn : ℕ → ℕ → ℕ
 byteIn c b = crcFrom c (b ∷ [])
 
 pub from-none : (c : ℕ) → crcFrom c [] ≡ c
-unfolding crcFrom run bits
+unfolding crcFrom bitsIn bits
 from-none c = refl
 
 pub from-one : (c b : ℕ) → crcFrom c (b ∷ []) ≡ byteIn c b
@@ -23,7 +23,7 @@ unfolding byteIn
 from-one c b = refl
 
 pub from-cons : (c b : ℕ) (bs : List ℕ) → crcFrom c (b ∷ bs) ≡ crcFrom (byteIn c b) bs
-unfolding crcFrom run bits byteIn
+unfolding crcFrom bitsIn bits byteIn
 from-cons c b bs = refl
 
 pub from-append : (c : ℕ) (xs ys : List ℕ) → crcFrom c (xs ++ ys) ≡ crcFrom (crcFrom c xs) ys
@@ -41,7 +41,7 @@ unfolding bitIn poly
 bitIn-lt c m = xor-lt 16 (leaving c m * poly) (c % 2 ^ 15 * 2) (omega (arith, leaving-lt c m)) (omega arith)
 
 byteIn-lt : (c b : ℕ) → byteIn c b < 2 ^ 16
-unfolding byteIn crcFrom run bits
+unfolding byteIn crcFrom bitsIn bits
 byteIn-lt c b = bitIn-lt _ _
 
 pub from-lt : (c : ℕ) (bs : List ℕ) → c < 2 ^ 16 → crcFrom c bs < 2 ^ 16
@@ -78,7 +78,7 @@ bit-xor : (x y k : ℕ) → bit (bitXor x y) k ≡ bitXor (bit x k) (bit y k)
 bit-xor x y k = ap (λ (z : ℕ). z % 2) (xor-shr x y k) ∙ xor-mod (x / 2 ^ k) (y / 2 ^ k) 1
 
 pub byteIn-xor : (a b x y : ℕ) → byteIn (bitXor a b) (bitXor x y) ≡ bitXor (byteIn a x) (byteIn b y)
-unfolding byteIn crcFrom run bits
+unfolding byteIn crcFrom bitsIn bits
 byteIn-xor a b x y =
     rw (
       bit-xor x y 7,

@@ -26,13 +26,13 @@ bits [] = []
 bits (b ∷ bs) = bit b 7 ∷ bit b 6 ∷ bit b 5 ∷ bit b 4 ∷ bit b 3 ∷ bit b 2 ∷ bit b 1 ∷ bit b 0 ∷ bits bs
 
 -- the bits into the register, one after the other, and "no final change"
-unfoldable pub run : ℕ → List ℕ → ℕ
-run c [] = c
-run c (m ∷ ms) = run (bitIn c m) ms
+unfoldable pub bitsIn : ℕ → List ℕ → ℕ
+bitsIn c [] = c
+bitsIn c (m ∷ ms) = bitsIn (bitIn c m) ms
 
 -- the register c after some bytes more
 unfoldable pub crcFrom : ℕ → List ℕ → ℕ
-crcFrom c bytes = run c (bits bytes)
+crcFrom c bytes = bitsIn c (bits bytes)
 
 -- "start 0xFFFF"
 unfoldable pub crcOf : List ℕ → ℕ

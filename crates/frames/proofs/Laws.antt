@@ -7,13 +7,13 @@ use mathlib.Core.Bool.{Bool, true, false, cond}
 use mathlib.Core.List.{List}
 use native.Mathlib.Omega.{arith}
 use lib.ListN.{getD}
-use Rattle.pipe.specs.declared.Input.{Input}
+use Rattle.pipe.specs.declared.Pipe.{Pipe}
 use Rattle.pipe.specs.Input.{gatheringOf}
 use Rattle.pipe.proofs.Stale.{Alike, alike-gathered}
 use Rattle.frames.specs.Samples.{averageOf, averagesOf, boundedOf}
 use Rattle.frames.specs.Fields.{frame}
 use Rattle.frames.proofs.Shape.{channelAt, disjoint, tiles, Each, Narrow, ReadBack}
-use Rattle.frames.specs.Layout.{an03, an47, framesOf}
+use Rattle.frames.specs.Layout.{lines03, lines47, framesOf}
 use Rattle.frames.proofs.Tiles.{read-back}
 use Rattle.frames.proofs.Bytes.{bytes-03, bytes-47}
 use Rattle.frames.proofs.Means.{average-fits, averages-at}
@@ -27,25 +27,25 @@ infixr 10 _and_
 _and_ : {A B : Type 0} → A → B → A × B
 _and_ a b = (a, b)
 
-module _ (a : List ℕ) (i : Input) (on : Bool) (check : ℕ) where
+module _ (a : List ℕ) (p : Pipe) (on : Bool) (check : ℕ) where
   -- no field of AN03 overlaps another
-  pub disjoint-03 : disjoint (an03 a i on check) ≡ true
-  unfolding an03
+  pub disjoint-03 : disjoint (lines03 a p on check) ≡ true
+  unfolding lines03
   disjoint-03 = refl
 
   -- the fields of AN03 take up its 64 bits one after the other
-  pub tiles-03 : tiles 0 8 (an03 a i on check) ≡ true
-  unfolding an03
+  pub tiles-03 : tiles 0 8 (lines03 a p on check) ≡ true
+  unfolding lines03
   tiles-03 = refl
 
   -- each field of AN03 fits its bits
-  pub narrow-03 : i .timeouts ≤ 15 → check ≤ 31 → Each Narrow (an03 a i on check)
-  unfolding an03
+  pub narrow-03 : p .input .timeouts ≤ 15 → check ≤ 31 → Each Narrow (lines03 a p on check)
+  unfolding lines03
   narrow-03 t c =
       (omega arith) and (omega arith)
       and (omega arith) and (omega arith)
       and (omega arith)
-      and flag-fits (gatheringOf i) and (omega arith) and (omega arith) and (omega arith) and (omega arith)
+      and flag-fits (gatheringOf (p .input)) and (omega arith) and (omega arith) and (omega arith) and (omega arith)
       and (omega arith)
       and (omega arith) and (omega arith) and (omega arith) and (omega arith) and (omega arith) and flag-fits on and (omega arith)
       and (omega arith)
@@ -53,23 +53,23 @@ module _ (a : List ℕ) (i : Input) (on : Bool) (check : ℕ) where
       and tt
 
   -- each field of AN03 can be read back from the frame
-  pub read-back-03 : i .timeouts ≤ 15 → check ≤ 31 → Each (ReadBack (frame (an03 a i on check))) (an03 a i on check)
-  read-back-03 t c = read-back (an03 a i on check) tiles-03 (narrow-03 t c)
+  pub read-back-03 : p .input .timeouts ≤ 15 → check ≤ 31 → Each (ReadBack (frame (lines03 a p on check))) (lines03 a p on check)
+  read-back-03 t c = read-back (lines03 a p on check) tiles-03 (narrow-03 t c)
 
 module _ (a : List ℕ) where
   -- no field of AN47 overlaps another
-  pub disjoint-47 : disjoint (an47 a) ≡ true
-  unfolding an47
+  pub disjoint-47 : disjoint (lines47 a) ≡ true
+  unfolding lines47
   disjoint-47 = refl
 
   -- the fields of AN47 take up its 64 bits one after the other
-  pub tiles-47 : tiles 0 8 (an47 a) ≡ true
-  unfolding an47
+  pub tiles-47 : tiles 0 8 (lines47 a) ≡ true
+  unfolding lines47
   tiles-47 = refl
 
   -- each field of AN47 fits its bits
-  pub narrow-47 : Each Narrow (an47 a)
-  unfolding an47
+  pub narrow-47 : Each Narrow (lines47 a)
+  unfolding lines47
   narrow-47 =
       (omega arith)
       and (omega arith)
@@ -82,24 +82,24 @@ module _ (a : List ℕ) where
       and tt
 
   -- each field of AN47 can be read back from the frame
-  pub read-back-47 : Each (ReadBack (frame (an47 a))) (an47 a)
-  read-back-47 = read-back (an47 a) tiles-47 narrow-47
+  pub read-back-47 : Each (ReadBack (frame (lines47 a))) (lines47 a)
+  read-back-47 = read-back (lines47 a) tiles-47 narrow-47
 
-module _ (n : ℕ) (xs : List ℕ) (i : Input) (on : Bool) (check : ℕ) (h : boundedOf xs ≡ true) where
+module _ (n : ℕ) (xs : List ℕ) (p : Pipe) (on : Bool) (check : ℕ) (h : boundedOf xs ≡ true) where
   known : (c : ℕ) → c < 8 → (getD (averagesOf n xs) c 0 ≡ averageOf n xs c) × (averageOf n xs c < 2 ^ 10)
   known c l = (averages-at n xs c l, average-fits n xs c h)
 
   -- AN03 shows the averages of channels 1 to 3
-  pub shown-03 : (channelAt (framesOf n xs i on check .three) 2 ≡ averageOf n xs 1) × (channelAt (framesOf n xs i on check .three) 4 ≡ averageOf n xs 2) × (channelAt (framesOf n xs i on check .three) 6 ≡ averageOf n xs 3)
+  pub shown-03 : (channelAt (framesOf n xs p on check .an03) 2 ≡ averageOf n xs 1) × (channelAt (framesOf n xs p on check .an03) 4 ≡ averageOf n xs 2) × (channelAt (framesOf n xs p on check .an03) 6 ≡ averageOf n xs 3)
   unfolding framesOf channelAt
   shown-03 =
       let one = known 1 (omega arith) in
       let two = known 2 (omega arith) in
       let three = known 3 (omega arith) in
-      rw (bytes-03 (averagesOf n xs) i on check) (omega arith, omega arith, omega arith)
+      rw (bytes-03 (averagesOf n xs) p on check) (omega arith, omega arith, omega arith)
 
   -- AN47 shows the averages of channels 5 to 7
-  pub shown-47 : (channelAt (framesOf n xs i on check .fortyseven) 2 ≡ averageOf n xs 5) × (channelAt (framesOf n xs i on check .fortyseven) 4 ≡ averageOf n xs 6) × (channelAt (framesOf n xs i on check .fortyseven) 6 ≡ averageOf n xs 7)
+  pub shown-47 : (channelAt (framesOf n xs p on check .an47) 2 ≡ averageOf n xs 5) × (channelAt (framesOf n xs p on check .an47) 4 ≡ averageOf n xs 6) × (channelAt (framesOf n xs p on check .an47) 6 ≡ averageOf n xs 7)
   unfolding framesOf channelAt
   shown-47 =
       let five = known 5 (omega arith) in
@@ -108,10 +108,10 @@ module _ (n : ℕ) (xs : List ℕ) (i : Input) (on : Bool) (check : ℕ) (h : bo
       rw (bytes-47 (averagesOf n xs)) (omega arith, omega arith, omega arith)
 
 -- channels 0 and 4 are averaged and not sent: frames of samples that differ in them alone are equal
-pub unsent : (n : ℕ) (xs ys : List ℕ) (i : Input) (on : Bool) (check : ℕ) → ((c : ℕ) → c ≢ 0 → c ≢ 4 → averageOf n xs c ≡ averageOf n ys c) → framesOf n xs i on check ≡ framesOf n ys i on check
+pub unsent : (n : ℕ) (xs ys : List ℕ) (p : Pipe) (on : Bool) (check : ℕ) → ((c : ℕ) → c ≢ 0 → c ≢ 4 → averageOf n xs c ≡ averageOf n ys c) → framesOf n xs p on check ≡ framesOf n ys p on check
 unfolding framesOf
-unsent n xs ys i on check same =
-    rw (bytes-03 (averagesOf n xs) i on check, bytes-03 (averagesOf n ys) i on check, bytes-47 (averagesOf n xs), bytes-47 (averagesOf n ys))
+unsent n xs ys p on check same =
+    rw (bytes-03 (averagesOf n xs) p on check, bytes-03 (averagesOf n ys) p on check, bytes-47 (averagesOf n xs), bytes-47 (averagesOf n ys))
     (rw (
       sent 1 (omega arith) (λ e. omega arith) (λ e. omega arith),
       sent 2 (omega arith) (λ e. omega arith) (λ e. omega arith),
@@ -122,9 +122,9 @@ unsent n xs ys i on check same =
     ))
   where
     sent : (c : ℕ) → c < 8 → c ≢ 0 → c ≢ 4 → getD (averagesOf n xs) c 0 ≡ getD (averagesOf n ys) c 0
-    sent c l p q = averages-at n xs c l ∙ same c p q ∙ sym (averages-at n ys c l)
+    sent c l y z = averages-at n xs c l ∙ same c y z ∙ sym (averages-at n ys c l)
 
 -- bytes that lie behind the gathered ones never show in a frame
-pub alike-frames : (n : ℕ) (xs : List ℕ) (i j : Input) (on : Bool) (check : ℕ) → Alike i j → framesOf n xs i on check ≡ framesOf n xs j on check
-unfolding framesOf an03 gatheringOf
-alike-frames n xs i j on check a = rw (a .counts, alike-gathered a)
+pub alike-frames : (n : ℕ) (xs : List ℕ) (p q : Pipe) (on : Bool) (check : ℕ) → Alike (p .input) (q .input) → framesOf n xs p on check ≡ framesOf n xs q on check
+unfolding framesOf lines03 gatheringOf
+alike-frames n xs p q on check a = rw (a .counts, alike-gathered a)

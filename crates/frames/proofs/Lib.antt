@@ -7,4 +7,3 @@ pub mod Shape
 pub mod Tiles
 pub mod Means
 pub mod Laws
-pub mod Shown

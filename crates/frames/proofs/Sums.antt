@@ -7,23 +7,25 @@ use mathlib.Core.List.{List, map}
 use native.Mathlib.Omega.{arith}
 use native.Mathlib.Numerals.{add-one}
 use lib.ListN.{length, getD}
-use Rattle.frames.specs.Samples.{channels, sampleAt, sumOf, sumsOf, averageOf, averagesOf, boundedOf}
+use Rattle.frames.specs.Samples.{channels, sampleAt, sumOf, averageOf, averagesOf, boundedOf}
 use Rattle.frames.proofs.Eight.{eight-at}
 use Rattle.frames.proofs.Bounds.{each-bounded}
 
+-- the eight sums after n passes
+abbrev pub sumsOf : ℕ → List ℕ → List ℕ
+sumsOf n xs = map (sumOf n xs) channels
+
 -- the sum at a channel's place
 pub sums-at : (n : ℕ) (xs : List ℕ) (c : ℕ) → c < 8 → getD (sumsOf n xs) c 0 ≡ sumOf n xs c
-unfolding sumsOf
 sums-at n xs c h = eight-at (sumOf n xs) c h
 
 -- there are eight sums
 pub length-sums : (n : ℕ) (xs : List ℕ) → length (sumsOf n xs) ≡ 8
-unfolding sumsOf
 length-sums n xs = refl
 
 -- before the first pass every sum is 0
 pub sums-none : (xs : List ℕ) → sumsOf 0 xs ≡ map (λ (c : ℕ). 0) channels
-unfolding sumsOf sumOf
+unfolding sumOf
 sums-none xs = refl
 
 -- one pass more
@@ -42,5 +44,5 @@ sum-most (suc n) xs c h =
 
 -- the averages over n passes are the sums over them divided by n
 pub averages-divided : (n : ℕ) (xs : List ℕ) → averagesOf n xs ≡ map (λ (s : ℕ). s / n) (sumsOf n xs)
-unfolding averagesOf averageOf sumsOf
+unfolding averagesOf averageOf
 averages-divided n xs = refl

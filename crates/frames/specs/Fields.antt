@@ -12,12 +12,12 @@ pub record Field : Type 0 where
   pub value : ℕ
 
 -- byte.high-low
-abbrev pub bits : ℕ → ℕ → ℕ → ℕ → Field
-bits b h l v = record { byte = b; high = h; low = l; value = v }
+abbrev pub fieldBits : ℕ → ℕ → ℕ → ℕ → Field
+fieldBits b h l v = record { byte = b; high = h; low = l; value = v }
 
 -- byte.bit, a flag
-abbrev pub bit : ℕ → ℕ → Bool → Field
-bit b l f = bits b l l (cond f 1 0)
+abbrev pub fieldBit : ℕ → ℕ → Bool → Field
+fieldBit b l f = fieldBits b l l (cond f 1 0)
 
 -- bits high..low of a number
 abbrev pub part : ℕ → ℕ → ℕ → ℕ

@@ -22,10 +22,6 @@ sumOf (suc n) xs c = sumOf n xs c + sampleAt xs n c
 unfoldable pub averageOf : ℕ → List ℕ → ℕ → ℕ
 averageOf n xs c = sumOf n xs c / n
 
--- the eight sums after n passes
-unfoldable pub sumsOf : ℕ → List ℕ → List ℕ
-sumsOf n xs = map (sumOf n xs) channels
-
 -- the eight averages over n passes
 unfoldable pub averagesOf : ℕ → List ℕ → List ℕ
 averagesOf n xs = map (averageOf n xs) channels

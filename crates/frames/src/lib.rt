@@ -1,18 +1,18 @@
 // The samples of a survey: their bound, the eight averages, and the two status frames that show them.
-use pipe::Input;
+use pipe::Pipe;
 ghost use mathlib.Core.Path.{_≡_};
 ghost use mathlib.Core.Bool.{true, cond};
 ghost use mathlib.Core.List.{map};
 ghost use Prim.Native.Nat.{ℕ, _+_, _/_, _≤_, _<_};
 ghost use lib.ListN.{length};
-ghost use Rattle.frames.specs.Samples.{sumsOf, averagesOf, boundedOf};
+ghost use Rattle.frames.specs.Samples.{channels, sumOf, averagesOf, boundedOf};
 ghost use Rattle.frames.specs.Fields.{part, frame};
-ghost use Rattle.frames.specs.Layout.{an03, an47, framesOf};
+ghost use Rattle.frames.specs.Layout.{lines03, lines47, framesOf};
 
 // The two frames of eight bytes, AN03 and AN47.
 pub struct Frames {
-    pub three: [u8; 8],
-    pub fortyseven: [u8; 8],
+    pub an03: [u8; 8],
+    pub an47: [u8; 8],
 }
 
 // Whether no sample is over 1,023: looked at pass after pass, up to the first that is over.
@@ -34,8 +34,8 @@ pub fn bounded(samples: &[u16]) -> bool
 
 // Pass p added to the eight sums over the passes before it.
 fn add_pass(sums: [u16; 8], samples: &[u16], p: usize) -> [u16; 8]
-    requires { ⌜ (length (now samples) ≡ 128) × (boundedOf (now samples) ≡ true) × (p < 16) × (sums ≡ sumsOf p (now samples)) ⌝ }
-    ensures { λ r. ⌜ r ≡ sumsOf (p + 1) (now (samples .entry)) ⌝ }
+    requires { ⌜ (length (now samples) ≡ 128) × (boundedOf (now samples) ≡ true) × (p < 16) × (sums ≡ map (sumOf p (now samples)) channels) ⌝ }
+    ensures { λ r. ⌜ r ≡ map (sumOf (p + 1) (now (samples .entry))) channels ⌝ }
 {
     let mut out = sums;
     for c in 0..8usize {
@@ -89,16 +89,16 @@ fn bit_of(f: bool) -> u8
     if f { 1 } else { 0 }
 }
 
-// The frame AN03 of eight averages, the pipe's input half, initialised or not, and the self-check number.
-fn three(a: [u16; 8], input: Input, initialised: bool, selfcheck: u8) -> [u8; 8]
-    requires { ⌜ (input .timeouts ≤ 15) × (selfcheck ≤ 31) ⌝ }
-    ensures { λ r. ⌜ r ≡ frame (an03 a input initialised selfcheck) ⌝ }
+// The frame AN03 of eight averages, the pipe, initialised or not, and the self-check number.
+fn three(a: [u16; 8], pipe: Pipe, initialised: bool, selfcheck: u8) -> [u8; 8]
+    requires { ⌜ (pipe .input .timeouts ≤ 15) × (selfcheck ≤ 31) ⌝ }
+    ensures { λ r. ⌜ r ≡ frame (lines03 a pipe initialised selfcheck) ⌝ }
 {
     [
-        input.timeouts * 16,
+        pipe.input.timeouts * 16,
         0,
         low(a[1]),
-        bit_of(input.gathering()) * 128 + high(a[1]),
+        bit_of(pipe.input.gathering()) * 128 + high(a[1]),
         low(a[2]),
         bit_of(initialised) * 4 + high(a[2]),
         low(a[3]),
@@ -108,7 +108,7 @@ fn three(a: [u16; 8], input: Input, initialised: bool, selfcheck: u8) -> [u8; 8]
 
 // The frame AN47 of eight averages.
 fn fortyseven(a: [u16; 8]) -> [u8; 8]
-    ensures { λ r. ⌜ r ≡ frame (an47 a) ⌝ }
+    ensures { λ r. ⌜ r ≡ frame (lines47 a) ⌝ }
 {
     [
         0,
@@ -122,14 +122,14 @@ fn fortyseven(a: [u16; 8]) -> [u8; 8]
     ]
 }
 
-// The two frames that show the samples, the pipe's input half, initialised or not, and the self-check number.
-pub fn two_frames(samples: &[u16], input: Input, initialised: bool, selfcheck: u8) -> Frames
-    requires { ⌜ (length (now samples) ≡ 128) × (boundedOf (now samples) ≡ true) × (input .timeouts ≤ 15) × (selfcheck ≤ 31) ⌝ }
-    ensures { λ r. ⌜ r ≡ framesOf 16 (now (samples .entry)) input initialised selfcheck ⌝ }
+// The two frames that show the samples, the pipe, initialised or not, and the self-check number.
+pub fn two_frames(samples: &[u16], pipe: Pipe, initialised: bool, selfcheck: u8) -> Frames
+    requires { ⌜ (length (now samples) ≡ 128) × (boundedOf (now samples) ≡ true) × (pipe .input .timeouts ≤ 15) × (selfcheck ≤ 31) ⌝ }
+    ensures { λ r. ⌜ r ≡ framesOf 16 (now (samples .entry)) pipe initialised selfcheck ⌝ }
 {
     let a = averages(samples);
     Frames {
-        three: three(a, input, initialised, selfcheck),
-        fortyseven: fortyseven(a),
+        an03: three(a, pipe, initialised, selfcheck),
+        an47: fortyseven(a),
     }
 }

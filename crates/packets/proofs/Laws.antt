@@ -19,9 +19,9 @@ use Rattle.packets.specs.declared.Command.the-variants.{Initialise, Stat
 use Rattle.packets.specs.declared.Parsed.{Parsed}
 use Rattle.packets.specs.declared.Parsed.the-variants.{Nothing, Error, Acknowledgement, Asked}
 use Rattle.packets.specs.Numbers.{highFirst, numberOf, signedOf, unsignedOf}
-use Rattle.packets.specs.Commands.{fieldsBounded, findIn, listedIn, rowAt, isCode, placeOf, rowOf, saidOf}
-use Rattle.packets.specs.Reading.{first, crcRight, readOf}
-use Rattle.packets.specs.Answers.{closed, answerOf, errorAnswer, doneAnswer, statusBody, statusAnswer, valueBody, valueAnswer, dataAnswer, fieldBytes, bodyOf, bytesOf}
+use Rattle.packets.specs.Commands.{fieldsBounded, findIn, listedIn, codeRow, isCode, commandPlace, commandRow, parsedSaid}
+use Rattle.packets.specs.Reading.{first, crcRight, packetRead}
+use Rattle.packets.specs.Answers.{withCrc, answerOf, errorAnswer, doneAnswer, statusBody, statusAnswer, valueBody, valueAnswer, dataAnswer, fieldBytes, bodyOf, commandBytes}
 use Rattle.packets.proofs.Sendable.{Sendable}
 use Rattle.packets.proofs.Digits.{number-back}
 use Rattle.packets.proofs.Complement.{signed-back}
@@ -36,41 +36,41 @@ use Rattle.packets.proofs.Sent.{rest-of, last-of, closed-right, done-ta
 -- ---- what `read` promises
 
 -- it decides the result: whatever says the same is the same
-pub read-decided : (r : Parsed) (p : List ℕ) → saidOf r ≡ saidOf (readOf p) → r ≡ readOf p
-read-decided r p = one-to-one r (readOf p)
+pub read-decided : (r : Parsed) (p : List ℕ) → parsedSaid r ≡ parsedSaid (packetRead p) → r ≡ packetRead p
+read-decided r p = one-to-one r (packetRead p)
 
 -- no two things that a packet may be taken as have the same numbers
-pub said-once : (p q : Parsed) → saidOf p ≡ saidOf q → p ≡ q
+pub said-once : (p q : Parsed) → parsedSaid p ≡ parsedSaid q → p ≡ q
 said-once = one-to-one
 
 -- an empty packet is read as nothing
-pub nothing : readOf [] ≡ Nothing
+pub nothing : packetRead [] ≡ Nothing
 nothing = empty [] refl
 
 -- a packet that is not empty, of under 4 bytes or with a wrong CRC, gets the error 0x01 with its own first byte
-pub too-short : (p : List ℕ) → 0 < length p → length p < 4 → readOf p ≡ Error (first p) 0x01
+pub too-short : (p : List ℕ) → 0 < length p → length p < 4 → packetRead p ≡ Error (first p) 0x01
 too-short = short
 
-pub crc-wrong : (p : List ℕ) → 0 < length p → crcRight p ≡ false → readOf p ≡ Error (first p) 0x01
+pub crc-wrong : (p : List ℕ) → 0 < length p → crcRight p ≡ false → packetRead p ≡ Error (first p) 0x01
 crc-wrong = damaged
 
 -- so check 2 as it stands
-pub check-two : (p : List ℕ) → 0 < length p → (ltb (length p) 4 || not (crcRight p)) ≡ true → readOf p ≡ Error (first p) 0x01
+pub check-two : (p : List ℕ) → 0 < length p → (ltb (length p) 4 || not (crcRight p)) ≡ true → packetRead p ≡ Error (first p) 0x01
 check-two p n h =
     split (ltb (length p) 4) (λ e. short p n (ltb-true (length p) 4 e)) (λ e. damaged p n (not-true (crcRight p) (simp e at h)))
 
 -- what is not empty is taken as something, and the first byte said is the packet's
-pub first-said : (p : List ℕ) → 0 < length p → getD (saidOf (readOf p)) 1 (negsuc 0) ≡ pos (first p)
+pub first-said : (p : List ℕ) → 0 < length p → getD (parsedSaid (packetRead p)) 1 (negsuc 0) ≡ pos (first p)
 first-said = named
 
 -- so only an empty packet is read as nothing
-pub only-nothing : (p : List ℕ) → readOf p ≡ Nothing → length p ≡ 0
-unfolding saidOf
+pub only-nothing : (p : List ℕ) → packetRead p ≡ Nothing → length p ≡ 0
+unfolding parsedSaid
 only-nothing p e =
     split (eqb (length p) 0) (λ z. eqb-true (length p) 0 z)
     (λ z. let n = first-said p (not-empty p z) in let no-number : _≡_ {A = ℕ} 0 1 = cc in absurd (omega arith))
 
-taken-first : (p : List ℕ) (x : Parsed) → readOf p ≡ x → (x ≡ Nothing → ⊥) → getD (saidOf x) 1 (negsuc 0) ≡ pos (first p)
+taken-first : (p : List ℕ) (x : Parsed) → packetRead p ≡ x → (x ≡ Nothing → ⊥) → getD (parsedSaid x) 1 (negsuc 0) ≡ pos (first p)
 taken-first p x e n =
     rw e at (
     first-said p
@@ -78,18 +78,18 @@ taken-first p x e n =
     )
 
 -- an error has the packet's own first byte
-pub error-first : (p : List ℕ) (f n : ℕ) → readOf p ≡ Error f n → f ≡ first p
-unfolding saidOf
+pub error-first : (p : List ℕ) (f n : ℕ) → packetRead p ≡ Error f n → f ≡ first p
+unfolding parsedSaid
 error-first p f n e = let x = taken-first p (Error f n) e (λ z. let y : _≡_ {A = ℕ} 0 1 = cc in omega arith) in cc
 
 -- so has an acknowledgement
-pub acknowledgement-first : (p : List ℕ) (f : ℕ) (one : Bool) → readOf p ≡ Acknowledgement f one → f ≡ first p
-unfolding saidOf
+pub acknowledgement-first : (p : List ℕ) (f : ℕ) (one : Bool) → packetRead p ≡ Acknowledgement f one → f ≡ first p
+unfolding parsedSaid
 acknowledgement-first p f one e = let x = taken-first p (Acknowledgement f one) e (λ z. let y : _≡_ {A = ℕ} 0 1 = cc in omega arith) in cc
 
 -- and a command's packet begins with its code
-pub asked-first : (p : List ℕ) (c : Command) → readOf p ≡ Asked c → rowOf c .code ≡ first p
-unfolding saidOf
+pub asked-first : (p : List ℕ) (c : Command) → packetRead p ≡ Asked c → commandRow c .code ≡ first p
+unfolding parsedSaid
 asked-first p c e = let x = taken-first p (Asked c) e (λ z. let y : _≡_ {A = ℕ} 0 1 = cc in omega arith) in cc
 
 -- ---- numbers
@@ -130,8 +130,8 @@ unfolding dataAnswer
 data-length f block e = answer-length f 0x01 block ∙ ap (λ (n : ℕ). 4 + n) e
 
 -- and those lengths stand in the packet table: of a type 1 command that is done, and of each type 2 command
-pub done-listed : (c : Command) → rowOf c .kind ≡ 1 → (f : ℕ) → length (doneAnswer f) ≡ rowOf c .answer
-unfolding rowOf placeOf
+pub done-listed : (c : Command) → commandRow c .kind ≡ 1 → (f : ℕ) → length (doneAnswer f) ≡ commandRow c .answer
+unfolding commandRow commandPlace
 done-listed (Initialise g) k f = done-length f
 done-listed (Update g) k f = done-length f
 done-listed (Write id v) k f = done-length f
@@ -141,17 +141,17 @@ done-listed (Read id) k f = absurd (omega arith)
 done-listed Priority k f = absurd (omega arith)
 done-listed Data k f = absurd (omega arith)
 
-pub status-listed : (f : ℕ) (r : Report) → length (r .ids) ≡ 8 → length (statusAnswer f r) ≡ rowOf Status .answer
-unfolding rowOf placeOf
+pub status-listed : (f : ℕ) (r : Report) → length (r .ids) ≡ 8 → length (statusAnswer f r) ≡ commandRow Status .answer
+unfolding commandRow commandPlace
 status-listed = status-length
 
-pub value-listed : (f id : ℕ) (v : ℤ) → length (valueAnswer f id v) ≡ rowOf (Read id) .answer
-unfolding rowOf placeOf
+pub value-listed : (f id : ℕ) (v : ℤ) → length (valueAnswer f id v) ≡ commandRow (Read id) .answer
+unfolding commandRow commandPlace
 value-listed = value-length
 
 pub data-listed : (c : Command) → (c ≡ Priority) ⊎ (c ≡ Data) → (f : ℕ) (block : List ℕ) → length block ≡ 256
-    → length (dataAnswer f block) ≡ rowOf c .answer
-unfolding rowOf placeOf
+    → length (dataAnswer f block) ≡ commandRow c .answer
+unfolding commandRow commandPlace
 data-listed c w f block e =
     ⊎-elim (λ h. rw h (data-length f block e)) (λ h. rw h (data-length f block e)) w
 
@@ -168,26 +168,26 @@ unfolding answerOf
 answer-right f s body = closed-right (f ∷ s ∷ body)
 
 -- an answer of the done or error form whose first byte is 0x90 to 0x9F is itself read as an acknowledgement
-pub done-acknowledges : (f : ℕ) → 0x90 ≤ f → f ≤ 0x9F → readOf (doneAnswer f) ≡ Acknowledgement f true
+pub done-acknowledges : (f : ℕ) → 0x90 ≤ f → f ≤ 0x9F → packetRead (doneAnswer f) ≡ Acknowledgement f true
 done-acknowledges = done-taken
 
-pub error-acknowledges : (f n : ℕ) → 0x90 ≤ f → f ≤ 0x9F → readOf (errorAnswer f n) ≡ Acknowledgement f false
+pub error-acknowledges : (f n : ℕ) → 0x90 ≤ f → f ≤ 0x9F → packetRead (errorAnswer f n) ≡ Acknowledgement f false
 error-acknowledges = error-taken
 
 -- ---- commands
 
 -- the bytes of a command that can be sent are read as that command
-pub sent-is-read : (c : Command) → Sendable c → readOf (bytesOf c) ≡ Asked c
+pub sent-is-read : (c : Command) → Sendable c → packetRead (commandBytes c) ≡ Asked c
 sent-is-read = sent
 
 -- but a Read of id 0x7E cannot be sent: its bytes are an acknowledgement
-pub read-126 : readOf (bytesOf (Read 0x7E)) ≡ Acknowledgement 0x94 true
-unfolding bytesOf bodyOf rowOf placeOf doneAnswer
+pub read-126 : packetRead (commandBytes (Read 0x7E)) ≡ Acknowledgement 0x94 true
+unfolding commandBytes bodyOf commandRow commandPlace doneAnswer
 read-126 = done-taken 0x94 (omega arith) (omega arith)
 
 -- a command's bytes are as many as the table says
-pub bytes-listed : (c : Command) → length (bytesOf c) ≡ rowOf c .bytes
-unfolding bytesOf bodyOf valueBody rowOf placeOf answerOf closed fieldBytes highFirst
+pub bytes-listed : (c : Command) → length (commandBytes c) ≡ commandRow c .bytes
+unfolding commandBytes bodyOf valueBody commandRow commandPlace answerOf withCrc fieldBytes highFirst
 bytes-listed (Initialise f) = refl
 bytes-listed Status = refl
 bytes-listed (Update f) = refl
@@ -198,8 +198,8 @@ bytes-listed Data = refl
 bytes-listed Shutdown = refl
 
 -- a command's code is a code, and its row is found by it
-pub code-listed : (c : Command) → (isCode (rowOf c .code) ≡ true) × (rowAt (rowOf c .code) ≡ rowOf c)
-unfolding rowOf placeOf isCode listedIn rowAt findIn
+pub code-listed : (c : Command) → (isCode (commandRow c .code) ≡ true) × (codeRow (commandRow c .code) ≡ commandRow c)
+unfolding commandRow commandPlace isCode listedIn codeRow findIn
 code-listed (Initialise f) = (refl, refl)
 code-listed Status = (refl, refl)
 code-listed (Update f) = (refl, refl)

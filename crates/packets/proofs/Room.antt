@@ -9,14 +9,14 @@ use lib.ListN.{length, take, drop, length-append}
 use lib.Seq.{sets, sets-eq, take-append-seam}
 use Rattle.crc.specs.Crc.{crcOf}
 use Rattle.packets.specs.Numbers.{highFirst}
-use Rattle.packets.specs.Answers.{closed, answerOf, Written}
+use Rattle.packets.specs.Answers.{withCrc, answerOf, Written}
 use Rattle.packets.proofs.Stores.{sets-append, lent}
 use Rattle.packets.proofs.Digits.{high-first-length}
 
 -- the CRC of what stands there, written behind it
 closed-there : (room head : List ℕ) (end : ℕ) → end ≡ length head → end ≤ length room
-    → sets (sets room 0 head) end (highFirst 2 (crcOf (take end (sets room 0 head)))) ≡ sets room 0 (closed head)
-unfolding closed
+    → sets (sets room 0 head) end (highFirst 2 (crcOf (take end (sets room 0 head)))) ≡ sets room 0 (withCrc head)
+unfolding withCrc
 closed-there room head end e h =
     let whole : sets room 0 head ≡ head ++ drop (0 + length head) room = sets-eq head room 0 (omega arith) in
     let there : take end (sets room 0 head) ≡ head = rw (whole, e, take-append-seam) in
@@ -24,7 +24,7 @@ closed-there room head end e h =
 
 -- an answer has four bytes and its body
 pub answer-length : (f s : ℕ) (body : List ℕ) → length (answerOf f s body) ≡ 4 + length body
-unfolding answerOf closed
+unfolding answerOf withCrc
 answer-length f s body =
     length-append (f ∷ s ∷ body) (highFirst 2 (crcOf (f ∷ s ∷ body)))
     ∙ omega (arith, high-first-length 2 (crcOf (f ∷ s ∷ body)))

@@ -1,4 +1,4 @@
--- `saidOf` is one-to-one: what a packet is taken as can be told from its numbers.
+-- `parsedSaid` is one-to-one: what a packet is taken as can be told from its numbers.
 -- Assumes nothing.
 use Prim.Native.Nat.{ℕ}
 use mathlib.Core.Path.{_≡_, refl, sym, ap, _∙_}
@@ -12,7 +12,7 @@ use Rattle.packets.specs.declared.Command.{Command}
 use Rattle.packets.specs.declared.Command.the-variants.{Initialise, Status, Update, Write, Read, Priority, Data, Shutdown}
 use Rattle.packets.specs.declared.Parsed.{Parsed}
 use Rattle.packets.specs.declared.Parsed.the-variants.{Nothing, Error, Acknowledgement, Asked}
-use Rattle.packets.specs.Commands.{placeOf, rowOf, fieldValues, valuesOf, saidOf}
+use Rattle.packets.specs.Commands.{commandPlace, commandRow, fieldValues, valuesOf, parsedSaid}
 
 abbrev plain : ℤ → ℕ
 plain (pos n) = n
@@ -53,8 +53,8 @@ parsed l =
     (cond (eqb (length l) 1) Nothing (Acknowledgement (at l 1) (eqb (at l 2) 0x01)))
     (cond (eqb (at l 2) 0x09) (Error (at l 1) (at l 3)) (Asked (command l)))
 
-back : (p : Parsed) → parsed (saidOf p) ≡ p
-unfolding parsed command fields at saidOf rowOf placeOf valuesOf fieldValues
+back : (p : Parsed) → parsed (parsedSaid p) ≡ p
+unfolding parsed command fields at parsedSaid commandRow commandPlace valuesOf fieldValues
 back Nothing = refl
 back (Error first number) = refl
 back (Acknowledgement first true) = refl
@@ -68,5 +68,5 @@ back (Asked Priority) = refl
 back (Asked Data) = refl
 back (Asked Shutdown) = refl
 
-pub one-to-one : (p q : Parsed) → saidOf p ≡ saidOf q → p ≡ q
+pub one-to-one : (p q : Parsed) → parsedSaid p ≡ parsedSaid q → p ≡ q
 one-to-one p q e = sym (back p) ∙ ap parsed e ∙ back q

@@ -15,30 +15,30 @@ use Rattle.packets.specs.declared.Command.{Command}
 use Rattle.packets.specs.declared.Command.the-variants.{Initialise, Status, Update, Write, Read, Priority, Data, Shutdown}
 use Rattle.packets.specs.declared.Parsed.the-variants.{Acknowledgement, Asked}
 use Rattle.packets.specs.Numbers.{highFirst, numberOf, numberAt, signedOf, unsignedOf}
-use Rattle.packets.specs.Commands.{fieldsIn, findIn, listedIn, rowAt, isCode, placeOf, rowOf}
-use Rattle.packets.specs.Reading.{first, second, crcRight, acknowledges, readOf}
-use Rattle.packets.specs.Answers.{closed, answerOf, errorAnswer, doneAnswer, valueBody, fieldBytes, bodyOf, bytesOf}
+use Rattle.packets.specs.Commands.{fieldsIn, findIn, listedIn, codeRow, isCode, commandPlace, commandRow}
+use Rattle.packets.specs.Reading.{first, second, crcRight, acknowledges, packetRead}
+use Rattle.packets.specs.Answers.{withCrc, answerOf, errorAnswer, doneAnswer, valueBody, fieldBytes, bodyOf, commandBytes}
 use Rattle.packets.proofs.Sendable.{FieldsFit, Sendable}
 use Rattle.packets.proofs.Digits.{high-first-length, number-back}
 use Rattle.packets.proofs.Complement.{signed-back, unsigned-below}
 use Rattle.packets.proofs.Checks.{acknowledged, asked}
 
 -- the last two bytes of what was closed, and the rest
-pub rest-of : (head : List ℕ) → take (length (closed head) - 2) (closed head) ≡ head
-unfolding closed
+pub rest-of : (head : List ℕ) → take (length (withCrc head) - 2) (withCrc head) ≡ head
+unfolding withCrc
 rest-of head =
     let n : length (head ++ highFirst 2 (crcOf head)) ≡ length head + 2 =
     length-append head (highFirst 2 (crcOf head)) ∙ ap (λ (k : ℕ). length head + k) (high-first-length 2 (crcOf head)) in
     take-at head (highFirst 2 (crcOf head)) (length (head ++ highFirst 2 (crcOf head)) - 2) (omega arith)
 
-pub last-of : (head : List ℕ) → drop (length (closed head) - 2) (closed head) ≡ highFirst 2 (crcOf head)
-unfolding closed
+pub last-of : (head : List ℕ) → drop (length (withCrc head) - 2) (withCrc head) ≡ highFirst 2 (crcOf head)
+unfolding withCrc
 last-of head =
     let n : length (head ++ highFirst 2 (crcOf head)) ≡ length head + 2 =
     length-append head (highFirst 2 (crcOf head)) ∙ ap (λ (k : ℕ). length head + k) (high-first-length 2 (crcOf head)) in
     drop-at head (highFirst 2 (crcOf head)) (length (head ++ highFirst 2 (crcOf head)) - 2) (omega arith)
 
-pub closed-right : (head : List ℕ) → crcRight (closed head) ≡ true
+pub closed-right : (head : List ℕ) → crcRight (withCrc head) ≡ true
 unfolding crcRight numberAt
 closed-right head =
     let short : length (highFirst 2 (crcOf head)) ≤ 2 = omega (arith, high-first-length 2 (crcOf head)) in
@@ -52,21 +52,21 @@ closed-right head =
     )
 
 -- the two answers of five bytes, whose first byte could be a code
-pub done-taken : (f : ℕ) → 0x90 ≤ f → f ≤ 0x9F → readOf (doneAnswer f) ≡ Acknowledgement f true
-unfolding doneAnswer answerOf closed highFirst acknowledges
+pub done-taken : (f : ℕ) → 0x90 ≤ f → f ≤ 0x9F → packetRead (doneAnswer f) ≡ Acknowledgement f true
+unfolding doneAnswer answerOf withCrc highFirst acknowledges
 done-taken f h k =
     let right = closed-right (f ∷ 0x01 ∷ 0x7E ∷ []) in
     acknowledged (doneAnswer f) (omega arith) right (simp (right, le-leb 0x90 f h, le-leb f 0x9F k))
 
-pub error-taken : (f n : ℕ) → 0x90 ≤ f → f ≤ 0x9F → readOf (errorAnswer f n) ≡ Acknowledgement f false
-unfolding errorAnswer answerOf closed highFirst acknowledges
+pub error-taken : (f n : ℕ) → 0x90 ≤ f → f ≤ 0x9F → packetRead (errorAnswer f n) ≡ Acknowledgement f false
+unfolding errorAnswer answerOf withCrc highFirst acknowledges
 error-taken f n h k =
     let right = closed-right (f ∷ 0x09 ∷ n ∷ []) in
     acknowledged (errorAnswer f n) (omega arith) right (simp (right, le-leb 0x90 f h, le-leb f 0x9F k))
 
 -- fields that fit come back from the bytes that carry them
 fields-back : (code : ℕ) (f : Fields) → FieldsFit f → fieldsIn (answerOf code 0x01 (fieldBytes f)) ≡ f
-unfolding fieldsIn numberAt answerOf closed fieldBytes highFirst
+unfolding fieldsIn numberAt answerOf withCrc fieldBytes highFirst
 fields-back code f h =
     let time : ℕ = f .seconds * 1024 + f .milliseconds in
     let whole : numberOf (highFirst 4 time) ≡ time = number-back 4 time (omega arith) in
@@ -86,16 +86,16 @@ fields-back code f h =
     }
 
 -- a command's bytes pass every check, if they have not the acknowledgement form and its row gives the command back
-passes : (c : Command) → 4 ≤ length (bytesOf c) → acknowledges (bytesOf c) ≡ false
-    → isCode (first (bytesOf c)) ≡ true → second (bytesOf c) ≡ 0x01 → length (bytesOf c) ≡ rowAt (first (bytesOf c)) .bytes
-    → rowAt (first (bytesOf c)) .command (bytesOf c) ≡ c → readOf (bytesOf c) ≡ Asked c
-unfolding bytesOf answerOf
+passes : (c : Command) → 4 ≤ length (commandBytes c) → acknowledges (commandBytes c) ≡ false
+    → isCode (first (commandBytes c)) ≡ true → second (commandBytes c) ≡ 0x01 → length (commandBytes c) ≡ codeRow (first (commandBytes c)) .bytes
+    → codeRow (first (commandBytes c)) .command (commandBytes c) ≡ c → packetRead (commandBytes c) ≡ Asked c
+unfolding commandBytes answerOf
 passes c four form k s l e =
-    asked (bytesOf c) four (closed-right (rowOf c .code ∷ 0x01 ∷ bodyOf c)) form k s l ∙ ap Asked e
+    asked (commandBytes c) four (closed-right (commandRow c .code ∷ 0x01 ∷ bodyOf c)) form k s l ∙ ap Asked e
 
 -- each command that can be sent is read as it was sent
-pub sent : (c : Command) → Sendable c → readOf (bytesOf c) ≡ Asked c
-unfolding bytesOf rowOf placeOf bodyOf valueBody answerOf closed fieldBytes highFirst acknowledges isCode listedIn rowAt findIn numberAt
+pub sent : (c : Command) → Sendable c → packetRead (commandBytes c) ≡ Asked c
+unfolding commandBytes commandRow commandPlace bodyOf valueBody answerOf withCrc fieldBytes highFirst acknowledges isCode listedIn codeRow findIn numberAt
 sent (Initialise f) h = passes (Initialise f) (omega arith) refl refl refl refl (ap Initialise (fields-back 0x90 f h))
 sent Status h = passes Status (omega arith) refl refl refl refl refl
 sent (Update f) h = passes (Update f) (omega arith) refl refl refl refl (ap Update (fields-back 0x92 f h))

@@ -12,15 +12,15 @@ use Rattle.packets.specs.declared.Command.{Command}
 use Rattle.packets.specs.declared.Command.the-variants.{Initialise, Status, Update, Write, Read, Priority, Data, Shutdown}
 use Rattle.packets.specs.declared.Report.{Report}
 use Rattle.packets.specs.Numbers.{highFirst, unsignedOf}
-use Rattle.packets.specs.Commands.{rowOf}
+use Rattle.packets.specs.Commands.{commandRow}
 
 -- bytes with their CRC behind them, sent high byte first
-unfoldable pub closed : List ℕ → List ℕ
-closed bytes = bytes ++ highFirst 2 (crcOf bytes)
+unfoldable pub withCrc : List ℕ → List ℕ
+withCrc bytes = bytes ++ highFirst 2 (crcOf bytes)
 
 -- every answer: first byte, second byte, body, CRC of all that
 unfoldable pub answerOf : ℕ → ℕ → List ℕ → List ℕ
-answerOf first second body = closed (first ∷ second ∷ body)
+answerOf first second body = withCrc (first ∷ second ∷ body)
 
 -- an answer is written from the start of the answer room, the rest of the room is kept, and the writer says how many bytes it has
 pub record Written (answer before after : List ℕ) (n : ℕ) : Type 0 where
@@ -76,5 +76,5 @@ bodyOf Data = []
 bodyOf Shutdown = []
 
 -- a command's packet: its code, 0x01, its fields, CRC
-unfoldable pub bytesOf : Command → List ℕ
-bytesOf c = answerOf (rowOf c .code) 0x01 (bodyOf c)
+unfoldable pub commandBytes : Command → List ℕ
+commandBytes c = answerOf (commandRow c .code) 0x01 (bodyOf c)

@@ -38,7 +38,7 @@ fieldsBounded f =
     && leb 1 (f .poll) && leb (f .poll) 60000
 
 -- a row of the packet table: the code, the command that a packet of that code holds, its type, its bytes and its answer's
-pub record Row : Type 0 where
+pub record CommandRow : Type 0 where
   pub code : ℕ
   pub command : List ℕ → Command
   pub kind : ℕ
@@ -46,58 +46,58 @@ pub record Row : Type 0 where
   pub answer : ℕ
 
 -- a row from its columns
-abbrev pub row : ℕ → (List ℕ → Command) → ℕ → ℕ → ℕ → Row
-row k c t b a = record { code = k; command = c; kind = t; bytes = b; answer = a }
+abbrev pub commandLine : ℕ → (List ℕ → Command) → ℕ → ℕ → ℕ → CommandRow
+commandLine k c t b a = record { code = k; command = c; kind = t; bytes = b; answer = a }
 
 -- the packet table
-abbrev pub rows : List Row
-rows =
-    row 0x90 (λ p. Initialise (fieldsIn p)) 1 25 5
-    ∷ row 0x91 (λ p. Status) 2 4 22
-    ∷ row 0x92 (λ p. Update (fieldsIn p)) 1 25 5
-    ∷ row 0x93 (λ p. Write (getD p 2 0) (signedOf 4 (numberAt p 3 4))) 1 9 5
-    ∷ row 0x94 (λ p. Read (getD p 2 0)) 2 5 9
-    ∷ row 0x95 (λ p. Priority) 2 4 260
-    ∷ row 0x96 (λ p. Data) 2 4 260
-    ∷ row 0x9F (λ p. Shutdown) 1 4 5
+abbrev pub commandRows : List CommandRow
+commandRows =
+    commandLine 0x90 (λ p. Initialise (fieldsIn p)) 1 25 5
+    ∷ commandLine 0x91 (λ p. Status) 2 4 22
+    ∷ commandLine 0x92 (λ p. Update (fieldsIn p)) 1 25 5
+    ∷ commandLine 0x93 (λ p. Write (getD p 2 0) (signedOf 4 (numberAt p 3 4))) 1 9 5
+    ∷ commandLine 0x94 (λ p. Read (getD p 2 0)) 2 5 9
+    ∷ commandLine 0x95 (λ p. Priority) 2 4 260
+    ∷ commandLine 0x96 (λ p. Data) 2 4 260
+    ∷ commandLine 0x9F (λ p. Shutdown) 1 4 5
     ∷ []
 
 -- what stands for a row where there is none: 0 bytes, which no command has
-abbrev pub noRow : Row
-noRow = row 0 (λ p. Shutdown) 0 0 0
+abbrev pub noCommandRow : CommandRow
+noCommandRow = commandLine 0 (λ p. Shutdown) 0 0 0
 
 -- the first row that has a code
-unfoldable pub findIn : List Row → ℕ → Row
-findIn [] k = noRow
+unfoldable pub findIn : List CommandRow → ℕ → CommandRow
+findIn [] k = noCommandRow
 findIn (r ∷ rs) k = cond (eqb k (r .code)) r (findIn rs k)
 
 -- a code that some row has
-unfoldable pub listedIn : List Row → ℕ → Bool
+unfoldable pub listedIn : List CommandRow → ℕ → Bool
 listedIn [] k = false
 listedIn (r ∷ rs) k = eqb k (r .code) || listedIn rs k
 
 -- the row of the packet table that has a code
-unfoldable pub rowAt : ℕ → Row
-rowAt k = findIn rows k
+unfoldable pub codeRow : ℕ → CommandRow
+codeRow k = findIn commandRows k
 
 -- a code of the packet table
 unfoldable pub isCode : ℕ → Bool
-isCode k = listedIn rows k
+isCode k = listedIn commandRows k
 
 -- a command's place in the packet table
-unfoldable pub placeOf : Command → ℕ
-placeOf (Initialise f) = 0
-placeOf Status = 1
-placeOf (Update f) = 2
-placeOf (Write id v) = 3
-placeOf (Read id) = 4
-placeOf Priority = 5
-placeOf Data = 6
-placeOf Shutdown = 7
+unfoldable pub commandPlace : Command → ℕ
+commandPlace (Initialise f) = 0
+commandPlace Status = 1
+commandPlace (Update f) = 2
+commandPlace (Write id v) = 3
+commandPlace (Read id) = 4
+commandPlace Priority = 5
+commandPlace Data = 6
+commandPlace Shutdown = 7
 
 -- a command's code, type, bytes and answer's bytes, as the packet table has them
-unfoldable pub rowOf : Command → Row
-rowOf c = getD rows (placeOf c) noRow
+unfoldable pub commandRow : Command → CommandRow
+commandRow c = getD commandRows (commandPlace c) noCommandRow
 
 -- the fields in their order in the packet
 unfoldable pub fieldValues : Fields → List ℕ
@@ -118,8 +118,8 @@ valuesOf Shutdown = []
 
 -- what a packet is taken as, in document 01's numbers: the bytes of the answer that it gets or asks for, its first and second
 -- byte (of an error those of its answer), and then the error's number or the command's values
-unfoldable pub saidOf : Parsed → List ℤ
-saidOf Nothing = map pos (0 ∷ [])
-saidOf (Error first number) = map pos (5 ∷ first ∷ 0x09 ∷ number ∷ [])
-saidOf (Acknowledgement first one) = map pos (0 ∷ first ∷ cond one 0x01 0x09 ∷ [])
-saidOf (Asked c) = map pos (rowOf c .answer ∷ rowOf c .code ∷ 0x01 ∷ []) ++ valuesOf c
+unfoldable pub parsedSaid : Parsed → List ℤ
+parsedSaid Nothing = map pos (0 ∷ [])
+parsedSaid (Error first number) = map pos (5 ∷ first ∷ 0x09 ∷ number ∷ [])
+parsedSaid (Acknowledgement first one) = map pos (0 ∷ first ∷ cond one 0x01 0x09 ∷ [])
+parsedSaid (Asked c) = map pos (commandRow c .answer ∷ commandRow c .code ∷ 0x01 ∷ []) ++ valuesOf c

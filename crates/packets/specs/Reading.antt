@@ -9,7 +9,7 @@ use Rattle.crc.specs.Crc.{crcOf}
 use Rattle.packets.specs.declared.Parsed.{Parsed}
 use Rattle.packets.specs.declared.Parsed.the-variants.{Nothing, Error, Acknowledgement, Asked}
 use Rattle.packets.specs.Numbers.{numberAt}
-use Rattle.packets.specs.Commands.{rowAt, isCode}
+use Rattle.packets.specs.Commands.{codeRow, isCode}
 
 -- the first, the second and the third byte
 abbrev pub first : List ℕ → ℕ
@@ -33,12 +33,12 @@ acknowledges packet =
 
 -- checks in this order: 1 empty packet, 2 under 4 bytes or CRC wrong, 3 acknowledgement form, 4 first byte not a code,
 -- 5 second byte not 0x01, 6 length not the code's
-unfoldable pub readOf : List ℕ → Parsed
-readOf p =
+unfoldable pub packetRead : List ℕ → Parsed
+packetRead p =
     cond (eqb (length p) 0) Nothing
     (cond (ltb (length p) 4 || not (crcRight p)) (Error (first p) 0x01)
     (cond (acknowledges p) (Acknowledgement (first p) (eqb (second p) 0x01))
     (cond (not (isCode (first p))) (Error (first p) 0x02)
     (cond (not (eqb (second p) 0x01)) (Error (first p) 0x3C)
-    (cond (not (eqb (length p) (rowAt (first p) .bytes))) (Error (first p) 0x01)
-    (Asked (rowAt (first p) .command p)))))))
+    (cond (not (eqb (length p) (codeRow (first p) .bytes))) (Error (first p) 0x01)
+    (Asked (codeRow (first p) .command p)))))))

@@ -9,8 +9,8 @@ ghost use mathlib.Core.Path.{_≡_};
 ghost use mathlib.Core.Bool.{true};
 ghost use Prim.Native.Nat.{_≤_};
 ghost use lib.ListN.{length};
-ghost use Rattle.packets.specs.Commands.{fieldsIn, fieldsBounded, rowAt, isCode, saidOf};
-ghost use Rattle.packets.specs.Reading.{crcRight, acknowledges, readOf};
+ghost use Rattle.packets.specs.Commands.{fieldsIn, fieldsBounded, codeRow, isCode, parsedSaid};
+ghost use Rattle.packets.specs.Reading.{crcRight, acknowledges, packetRead};
 
 // The errors of checks 2, 4, 5 and 6.
 const TOO_SHORT: u8 = 0x01;
@@ -56,7 +56,7 @@ fn fields_in(packet: &[u8]) -> Fields
 
 // The bytes of a code's packet, 0 where the byte is no code.
 fn length_of(code: u8) -> usize
-    ensures { λ r. ⌜ r ≡ rowAt code .bytes ⌝ }
+    ensures { λ r. ⌜ r ≡ codeRow code .bytes ⌝ }
 {
     match code {
         0x90 => 25,
@@ -74,8 +74,8 @@ fn length_of(code: u8) -> usize
 // The command in a packet whose code is known and whose length is right.
 fn command_in(code: u8, packet: &[u8]) -> Command
     requires { ⌜ isCode code ≡ true ⌝ }
-    requires { ⌜ length (now packet) ≡ rowAt code .bytes ⌝ }
-    ensures { λ r. ⌜ r ≡ rowAt code .command (now (packet .entry)) ⌝ }
+    requires { ⌜ length (now packet) ≡ codeRow code .bytes ⌝ }
+    ensures { λ r. ⌜ r ≡ codeRow code .command (now (packet .entry)) ⌝ }
 {
     match code {
         0x90 => Command::Initialise(fields_in(packet)),
@@ -116,7 +116,7 @@ fn is_acknowledgement(packet: &[u8]) -> bool
 
 // What a packet is: checks 1 to 6, each with its own way out.
 pub fn read(packet: &[u8]) -> Parsed
-    ensures { λ r. ⌜ saidOf r ≡ saidOf (readOf (now (packet .entry))) ⌝ }
+    ensures { λ r. ⌜ parsedSaid r ≡ parsedSaid (packetRead (now (packet .entry))) ⌝ }
 {
     if packet.len() == 0 {
         return Parsed::Nothing;

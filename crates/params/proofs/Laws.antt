@@ -16,8 +16,8 @@ use Rattle.params.specs.declared.Row.{Row}
 use Rattle.params.specs.declared.Params.{Params}
 use Rattle.params.specs.declared.Reading.{Reading}
 use Rattle.params.specs.declared.Reading.the-variants.{Held, Unknown}
-use Rattle.params.specs.Rows.{rows, ids, noRow, rowOf}
-use Rattle.params.specs.Rules.{isId, valueAt, marked, inRow, inSpan, inRows, soundOf, startOf, stored, allowed, writeOf, outside, valueOf, said, filter, isMissing, missingIds, missingOf}
+use Rattle.params.specs.Rows.{paramRows, paramIds, noParamRow, paramRow}
+use Rattle.params.specs.Rules.{isId, valueAt, marked, inRow, inSpan, inRows, soundParams, startParams, stored, writeAllowed, writeOf, outsideError, valueRead, readingSaid, filter, isMissing, missingIds, missingOf}
 
 -- ---- ids
 
@@ -51,17 +51,17 @@ apart a b e f d g = d (omega (arith, id-within a e, id-within b f))
 
 module _ (p : Params) (id : ℕ) where
   -- an id reads as its value
-  pub id-held : isId id ≡ true → valueOf p id ≡ inr (valueAt p id)
-  unfolding valueOf
+  pub id-held : isId id ≡ true → valueRead p id ≡ inr (valueAt p id)
+  unfolding valueRead
   id-held e = rw e
 
   -- what is no id reads as the error
-  pub no-id-unknown : isId id ≡ false → valueOf p id ≡ inl outside
-  unfolding valueOf
+  pub no-id-unknown : isId id ≡ false → valueRead p id ≡ inl outsideError
+  unfolding valueRead
   no-id-unknown e = rw e
 
--- two answers that say the same are the same: what is promised through `said` is decided
-pub said-once : (a b : Reading) → said a ≡ said b → a ≡ b
+-- two answers that say the same are the same: what is promised through `readingSaid` is decided
+pub said-once : (a b : Reading) → readingSaid a ≡ readingSaid b → a ≡ b
 said-once Unknown Unknown e = refl
 said-once Unknown (Held v) e = cc
 said-once (Held v) Unknown e = cc
@@ -78,7 +78,7 @@ rows-length (r ∷ rs) [] h = absurd (false≢true h)
 rows-length (r ∷ rs) (v ∷ vs) h = ap suc (rows-length rs vs (and-eq-true-iff (inRow r v) (inRows rs vs) .0 h .1))
 
 -- each of them in its row
-rows-each : (rs : List Row) (vs : List ℤ) (k : ℕ) → k < length rs → inRows rs vs ≡ true → inRow (getD rs k noRow) (getD vs k (pos 0)) ≡ true
+rows-each : (rs : List Row) (vs : List ℤ) (k : ℕ) → k < length rs → inRows rs vs ≡ true → inRow (getD rs k noParamRow) (getD vs k (pos 0)) ≡ true
 unfolding inRows
 rows-each [] vs k l h = absurd (not-suc-le-zero l)
 rows-each (r ∷ rs) [] k l h = absurd (false≢true h)
@@ -86,7 +86,7 @@ rows-each (r ∷ rs) (v ∷ vs) zero l h = and-eq-true-iff (inRow r v) (inRows r
 rows-each (r ∷ rs) (v ∷ vs) (suc k) l h = rows-each rs vs k (le-of-suc-le-suc l) (and-eq-true-iff (inRow r v) (inRows rs vs) .0 h .1)
 
 -- a store of a value that is in its row leaves each in its row
-rows-kept : (rs : List Row) (vs : List ℤ) (k : ℕ) (v : ℤ) → inRow (getD rs k noRow) v ≡ true → inRows rs vs ≡ true → inRows rs (set vs k v) ≡ true
+rows-kept : (rs : List Row) (vs : List ℤ) (k : ℕ) (v : ℤ) → inRow (getD rs k noParamRow) v ≡ true → inRows rs vs ≡ true → inRows rs (set vs k v) ≡ true
 unfolding inRows
 rows-kept [] [] k v f h = refl
 rows-kept [] (x ∷ vs) k v f h = absurd (false≢true h)
@@ -96,19 +96,19 @@ rows-kept (r ∷ rs) (x ∷ vs) (suc k) v f h =
     let both = and-eq-true-iff (inRow r x) (inRows rs vs) .0 h in
     and-eq-true-iff (inRow r x) (inRows rs (set vs k v)) .1 (both .0, rows-kept rs vs k v f (both .1))
 
-module _ (p : Params) (h : soundOf p ≡ true) where
+module _ (p : Params) (h : soundParams p ≡ true) where
   -- the two bounds of a sound state
-  parts : (inRows rows (p .values) ≡ true) × (inSpan p ≡ true)
-  unfolding soundOf
-  parts = and-eq-true-iff (inRows rows (p .values)) (inSpan p) .0 h
+  parts : (inRows paramRows (p .values) ≡ true) × (inSpan p ≡ true)
+  unfolding soundParams
+  parts = and-eq-true-iff (inRows paramRows (p .values)) (inSpan p) .0 h
 
   -- a sound state has twelve values
   pub sound-length : length (p .values) ≡ 12
-  sound-length = rows-length rows (p .values) (parts .0)
+  sound-length = rows-length paramRows (p .values) (parts .0)
 
   -- in a sound state the value of an id is in its row
-  pub sound-in-row : (id : ℕ) → isId id ≡ true → inRow (rowOf id) (valueAt p id) ≡ true
-  sound-in-row id e = rows-each rows (p .values) (id - 1) (omega (arith, id-within id e)) (parts .0)
+  pub sound-in-row : (id : ℕ) → isId id ≡ true → inRow (paramRow id) (valueAt p id) ≡ true
+  sound-in-row id e = rows-each paramRows (p .values) (id - 1) (omega (arith, id-within id e)) (parts .0)
 
   -- in a sound state parameter 1 is below parameter 2
   pub sound-span : inSpan p ≡ true
@@ -117,18 +117,18 @@ module _ (p : Params) (h : soundOf p ≡ true) where
 -- ---- starts
 
 -- the starts are sound
-pub start-sound : soundOf startOf ≡ true
-unfolding soundOf inRows startOf
+pub start-sound : soundParams startParams ≡ true
+unfolding soundParams inRows startParams
 start-sound = refl
 
 -- at the starts an id reads as its row's start
-pub start-held : (id : ℕ) → isId id ≡ true → valueOf startOf id ≡ inr (rowOf id .start)
-unfolding startOf
-start-held id e = id-held startOf id e ∙ ap inr (List·getD-map (λ (r : Row). r .start) rows (id - 1) noRow)
+pub start-held : (id : ℕ) → isId id ≡ true → valueRead startParams id ≡ inr (paramRow id .start)
+unfolding startParams
+start-held id e = id-held startParams id e ∙ ap inr (List·getD-map (λ (r : Row). r .start) paramRows (id - 1) noParamRow)
 
 -- at the starts there is a mark for each id, and none is set
-pub start-marks : startOf .written ≡ replicate 12 false
-unfolding startOf
+pub start-marks : startParams .written ≡ replicate 12 false
+unfolding startParams
 start-marks = refl
 
 -- ---- writes
@@ -145,13 +145,13 @@ by-cond P false f g = g
 
 module _ (p : Params) (id : ℕ) (v : ℤ) where
   -- a write of an id is taken exactly when the value is in its row and parameter 1 stays below parameter 2
-  pub id-taken : isId id ≡ true → writeOf p id v .taken ≡ inRow (rowOf id) v && inSpan (stored p id v)
-  unfolding writeOf allowed
+  pub id-taken : isId id ≡ true → writeOf p id v .taken ≡ inRow (paramRow id) v && inSpan (stored p id v)
+  unfolding writeOf writeAllowed
   id-taken e = rw e
 
   -- what is no id is refused
   pub no-id-refused : isId id ≡ false → writeOf p id v ≡ record { taken = false; params = p }
-  unfolding writeOf allowed
+  unfolding writeOf writeAllowed
   no-id-refused e = rw e
 
   -- a taken write stores the value and sets the mark
@@ -167,22 +167,22 @@ module _ (p : Params) (id : ℕ) (v : ℤ) where
   -- what holds of the state, and of the stored one where the write is taken, holds after the write
   pub by-write : (P : Params → Type 0) → (writeOf p id v .taken ≡ true → P (stored p id v)) → P p → P (writeOf p id v .params)
   unfolding writeOf
-  by-write P f g = by-cond P (allowed p id v) f g
+  by-write P f g = by-cond P (writeAllowed p id v) f g
 
   -- only ids are taken
   pub taken-id : writeOf p id v .taken ≡ true → isId id ≡ true
-  unfolding writeOf allowed
-  taken-id e = and-eq-true-iff (isId id) (inRow (rowOf id) v && inSpan (stored p id v)) .0 e .0
+  unfolding writeOf writeAllowed
+  taken-id e = and-eq-true-iff (isId id) (inRow (paramRow id) v && inSpan (stored p id v)) .0 e .0
 
   -- a write keeps a sound state sound
-  pub write-sound : soundOf p ≡ true → soundOf (writeOf p id v .params) ≡ true
-  unfolding soundOf
+  pub write-sound : soundParams p ≡ true → soundParams (writeOf p id v .params) ≡ true
+  unfolding soundParams
   write-sound h =
-      by-write (λ q. soundOf q ≡ true)
+      by-write (λ q. soundParams q ≡ true)
       (λ e.
-      let both = and-eq-true-iff (inRow (rowOf id) v) (inSpan (stored p id v)) .0 (cc (id-taken (taken-id e))) in
-      and-eq-true-iff (inRows rows (set (p .values) (id - 1) v)) (inSpan (stored p id v)) .1
-      (rows-kept rows (p .values) (id - 1) v (both .0) (parts p h .0), both .1))
+      let both = and-eq-true-iff (inRow (paramRow id) v) (inSpan (stored p id v)) .0 (cc (id-taken (taken-id e))) in
+      and-eq-true-iff (inRows paramRows (set (p .values) (id - 1) v)) (inSpan (stored p id v)) .1
+      (rows-kept paramRows (p .values) (id - 1) v (both .0) (parts p h .0), both .1))
       h
 
   -- a write keeps the number of marks
@@ -190,7 +190,7 @@ module _ (p : Params) (id : ℕ) (v : ℤ) where
   write-marks = by-write (λ q. length (q .written) ≡ length (p .written)) (λ e. length-set (p .written) (id - 1) true) refl
 
   -- what was written is read
-  pub written-read : soundOf p ≡ true → writeOf p id v .taken ≡ true → valueOf (writeOf p id v .params) id ≡ inr v
+  pub written-read : soundParams p ≡ true → writeOf p id v .taken ≡ true → valueRead (writeOf p id v .params) id ≡ inr v
   written-read h e =
       let i = taken-id e in
       let within : id - 1 < length (p .values) = omega (arith, id-within id i, sound-length p h) in
@@ -216,7 +216,7 @@ module _ (p : Params) (id : ℕ) (v : ℤ) where
         (λ e. getD-set-other (p .written) (id - 1) (other - 1) true false (apart other id k (taken-id e) d)) refl
 
     -- a write changes nothing that is read of another id
-    pub other-read : valueOf (writeOf p id v .params) other ≡ valueOf p other
+    pub other-read : valueRead (writeOf p id v .params) other ≡ valueRead p other
     other-read =
         by-test (isId other)
         (λ k. rw (id-held (writeOf p id v .params) other k, id-held p other k, other-value k))
@@ -225,10 +225,10 @@ module _ (p : Params) (id : ℕ) (v : ℤ) where
 -- ---- missing ids
 
 -- no more are missing than are asked
-few-of : (p : Params) (l : List ℕ) → length (filter (isMissing p) l) ≤ length (filter (λ id. rowOf id .asked) l)
+few-of : (p : Params) (l : List ℕ) → length (filter (isMissing p) l) ≤ length (filter (λ id. paramRow id .asked) l)
 unfolding filter
 few-of p [] = omega arith
-few-of p (id ∷ l) = one (rowOf id .asked) (marked p id) (filter (isMissing p) l) (filter (λ k. rowOf k .asked) l) (few-of p l)
+few-of p (id ∷ l) = one (paramRow id .asked) (marked p id) (filter (isMissing p) l) (filter (λ k. paramRow k .asked) l) (few-of p l)
   where
     one : (a m : Bool) (xs ys : List ℕ) → length xs ≤ length ys → length (cond (a && not m) (id ∷ xs) xs) ≤ length (cond a (id ∷ ys) ys)
     one true true xs ys h = omega arith
@@ -238,7 +238,7 @@ few-of p (id ∷ l) = one (rowOf id .asked) (marked p id) (filter (isMissing p) 
 -- at most five ids are ever missing
 pub missing-few : (p : Params) → length (missingIds p) ≤ 5
 unfolding missingIds filter
-missing-few p = few-of p ids
+missing-few p = few-of p paramIds
 
 -- the missing list has eight places
 pub missing-length : (p : Params) → length (missingOf p) ≡ 8
@@ -262,9 +262,9 @@ same-tests t u h (id ∷ l) e =
 pub missing-marks : (p q : Params) → ((id : ℕ) → isId id ≡ true → marked p id ≡ marked q id) → missingOf p ≡ missingOf q
 unfolding missingOf missingIds isId
 missing-marks p q h =
-    ap (sets (replicate 8 0) 0) (same-tests (isMissing p) (isMissing q) (λ id e. ap (λ m. rowOf id .asked && not m) (h id e)) ids refl)
+    ap (sets (replicate 8 0) 0) (same-tests (isMissing p) (isMissing q) (λ id e. ap (λ m. paramRow id .asked && not m) (h id e)) paramIds refl)
 
 -- at the starts every asked id is missing
-pub start-missing : missingOf startOf ≡ 1 ∷ 2 ∷ 3 ∷ 6 ∷ 7 ∷ 0 ∷ 0 ∷ 0 ∷ []
-unfolding missingOf missingIds filter startOf
+pub start-missing : missingOf startParams ≡ 1 ∷ 2 ∷ 3 ∷ 6 ∷ 7 ∷ 0 ∷ 0 ∷ 0 ∷ []
+unfolding missingOf missingIds filter startParams
 start-missing = refl

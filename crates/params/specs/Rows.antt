@@ -7,8 +7,8 @@ use lib.ListN.{getD}
 use Rattle.params.specs.declared.Row.{Row}
 
 -- a row by its columns
-abbrev pub row : ℤ → ℤ → ℤ → Bool → Row
-row l m s a = record { least = l; most = m; start = s; asked = a }
+abbrev pub paramLine : ℤ → ℤ → ℤ → Bool → Row
+paramLine l m s a = record { least = l; most = m; start = s; asked = a }
 
 -- a number below 0
 abbrev pub minus : ℕ → ℤ
@@ -16,19 +16,19 @@ minus n = negℤ (pos n)
 
 -- the row of each trim
 abbrev pub trim : Row
-trim = row (minus 500) (pos 500) (pos 0) false
+trim = paramLine (minus 500) (pos 500) (pos 0) false
 
 -- least, most, start, asked, by id
-abbrev pub rows : List Row
-rows =
-    row (minus 4000) (pos 15000) (minus 2000) true  -- 1: span low, 0.01 C
-    ∷ row (minus 4000) (pos 15000) (pos 12000) true  -- 2: span high, 0.01 C
-    ∷ row (pos 100) (pos 1000) (pos 950) true  -- 3: emissivity, thousandths
-    ∷ row (pos 40) (pos 60000) (pos 1000) false  -- 4: frame interval, ms
-    ∷ row (pos 1) (pos 16) (pos 16) false  -- 5: passes
-    ∷ row (minus 4000) (pos 15000) (pos 2000) true  -- 6: reflected, 0.01 C
-    ∷ row (pos 0) (pos 3) (pos 0) true  -- 7: lens
-    ∷ row (pos 0) (pos 7) (pos 0) false  -- 8: palette
+abbrev pub paramRows : List Row
+paramRows =
+    paramLine (minus 4000) (pos 15000) (minus 2000) true  -- 1: span low, 0.01 C
+    ∷ paramLine (minus 4000) (pos 15000) (pos 12000) true  -- 2: span high, 0.01 C
+    ∷ paramLine (pos 100) (pos 1000) (pos 950) true  -- 3: emissivity, thousandths
+    ∷ paramLine (pos 40) (pos 60000) (pos 1000) false  -- 4: frame interval, ms
+    ∷ paramLine (pos 1) (pos 16) (pos 16) false  -- 5: passes
+    ∷ paramLine (minus 4000) (pos 15000) (pos 2000) true  -- 6: reflected, 0.01 C
+    ∷ paramLine (pos 0) (pos 3) (pos 0) true  -- 7: lens
+    ∷ paramLine (pos 0) (pos 7) (pos 0) false  -- 8: palette
     ∷ trim  -- 9 to 12: trims
     ∷ trim
     ∷ trim
@@ -36,13 +36,13 @@ rows =
     ∷ []
 
 -- the ids that have a row, rising
-abbrev pub ids : List ℕ
-ids = 1 ∷ 2 ∷ 3 ∷ 4 ∷ 5 ∷ 6 ∷ 7 ∷ 8 ∷ 9 ∷ 10 ∷ 11 ∷ 12 ∷ []
+abbrev pub paramIds : List ℕ
+paramIds = 1 ∷ 2 ∷ 3 ∷ 4 ∷ 5 ∷ 6 ∷ 7 ∷ 8 ∷ 9 ∷ 10 ∷ 11 ∷ 12 ∷ []
 
 -- what stands past the table's end, where nothing reads
-abbrev pub noRow : Row
-noRow = row (pos 0) (pos 0) (pos 0) false
+abbrev pub noParamRow : Row
+noParamRow = paramLine (pos 0) (pos 0) (pos 0) false
 
 -- the row of an id
-abbrev pub rowOf : ℕ → Row
-rowOf id = getD rows (id - 1) noRow
+abbrev pub paramRow : ℕ → Row
+paramRow id = getD paramRows (id - 1) noParamRow

@@ -13,7 +13,7 @@ use Rattle.params.specs.declared.Params.{Params}
 use Rattle.params.specs.declared.Wrote.{Wrote}
 use Rattle.params.specs.declared.Reading.{Reading}
 use Rattle.params.specs.declared.Reading.the-variants.{Held, Unknown}
-use Rattle.params.specs.Rows.{rows, ids, rowOf}
+use Rattle.params.specs.Rows.{paramRows, paramIds, paramRow}
 
 -- "Ids 0 and over 12 get 0x39": an id is 1 to 12
 unfoldable pub isId : ℕ → Bool
@@ -43,37 +43,37 @@ inRows (r ∷ rs) [] = false
 inRows (r ∷ rs) (v ∷ vs) = inRow r v && inRows rs vs
 
 -- "each parameter in its row and parameter 1 below parameter 2"
-unfoldable pub soundOf : Params → Bool
-soundOf p = inRows rows (p .values) && inSpan p
+unfoldable pub soundParams : Params → Bool
+soundParams p = inRows paramRows (p .values) && inSpan p
 
 -- "parameters .. at their starts", "nothing marked written"
-unfoldable pub startOf : Params
-startOf = record { values = map (λ (r : Row). r .start) rows; written = replicate 12 false }
+unfoldable pub startParams : Params
+startParams = record { values = map (λ (r : Row). r .start) paramRows; written = replicate 12 false }
 
 -- the state with a value stored and marked
 abbrev pub stored : Params → ℕ → ℤ → Params
 stored p id v = record { values = set (p .values) (id - 1) v; written = set (p .written) (id - 1) true }
 
 -- a write is taken: an id, a value in its row, and not "a write that would leave 1 not below 2"
-unfoldable pub allowed : Params → ℕ → ℤ → Bool
-allowed p id v = isId id && (inRow (rowOf id) v && inSpan (stored p id v))
+unfoldable pub writeAllowed : Params → ℕ → ℤ → Bool
+writeAllowed p id v = isId id && (inRow (paramRow id) v && inSpan (stored p id v))
 
 -- a write: stored and marked when it is taken, else everything as it was
 unfoldable pub writeOf : Params → ℕ → ℤ → Wrote
-writeOf p id v = record { taken = allowed p id v; params = cond (allowed p id v) (stored p id v) p }
+writeOf p id v = record { taken = writeAllowed p id v; params = cond (writeAllowed p id v) (stored p id v) p }
 
 -- "A field outside its bounds: 0x39"
-abbrev pub outside : ℕ
-outside = 0x39
+abbrev pub outsideError : ℕ
+outsideError = 0x39
 
 -- what a read of an id is answered: its value, on the right, or that error, on the left
-unfoldable pub valueOf : Params → ℕ → ℕ ⊎ ℤ
-valueOf p id = cond (isId id) (inr (valueAt p id)) (inl outside)
+unfoldable pub valueRead : Params → ℕ → ℕ ⊎ ℤ
+valueRead p id = cond (isId id) (inr (valueAt p id)) (inl outsideError)
 
 -- the number or the value that each answer of the code stands for
-abbrev pub said : Reading → ℕ ⊎ ℤ
-said Unknown = inl outside
-said (Held v) = inr v
+abbrev pub readingSaid : Reading → ℕ ⊎ ℤ
+readingSaid Unknown = inl outsideError
+readingSaid (Held v) = inr v
 
 -- those of a list that pass a test, in the list's order
 unfoldable pub filter : (ℕ → Bool) → List ℕ → List ℕ
@@ -82,11 +82,11 @@ filter test (x ∷ xs) = cond (test x) (x ∷ filter test xs) (filter test xs)
 
 -- "asked .. not written since Initialise"
 abbrev pub isMissing : Params → ℕ → Bool
-isMissing p id = rowOf id .asked && not (marked p id)
+isMissing p id = paramRow id .asked && not (marked p id)
 
 -- all such ids, rising
 unfoldable pub missingIds : Params → List ℕ
-missingIds p = filter (isMissing p) ids
+missingIds p = filter (isMissing p) paramIds
 
 -- "eight ids: the asked parameters not written since Initialise, rising, then zeros"
 unfoldable pub missingOf : Params → List ℕ

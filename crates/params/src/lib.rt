@@ -2,8 +2,8 @@
 ghost use mathlib.Core.Path.{_≡_};
 ghost use Prim.Native.Nat.{_<_};
 ghost use lib.ListN.{getD};
-ghost use Rattle.params.specs.Rows.{rows, noRow};
-ghost use Rattle.params.specs.Rules.{inRow, inSpan, startOf, writeOf, valueOf, said, missingOf, soundOf};
+ghost use Rattle.params.specs.Rows.{paramRows, noParamRow};
+ghost use Rattle.params.specs.Rules.{inRow, inSpan, startParams, writeOf, valueRead, readingSaid, missingOf, soundParams};
 
 pub struct Row {
     pub least: i32,
@@ -105,7 +105,7 @@ const ROWS: [Row; 12] = [
 // The row of the id i + 1.
 fn row_at(i: usize) -> Row
     requires { ⌜ i < 12 ⌝ }
-    ensures { λ r. ⌜ r ≡ getD rows i noRow ⌝ }
+    ensures { λ r. ⌜ r ≡ getD paramRows i noParamRow ⌝ }
 {
     ROWS[i]
 }
@@ -126,7 +126,7 @@ fn in_span(p: Params) -> bool
 
 // All parameters at their starts, nothing written.
 pub fn start() -> Params
-    ensures { λ r. ⌜ r ≡ startOf ⌝ }
+    ensures { λ r. ⌜ r ≡ startParams ⌝ }
 {
     let table = ROWS;
     let mut values = [0i32; 12];
@@ -172,7 +172,7 @@ pub fn write(p: Params, id: u8, value: i32) -> Wrote
 
 // The value of an id.
 pub fn value(p: Params, id: u8) -> Reading
-    ensures { λ r. ⌜ said r ≡ valueOf p id ⌝ }
+    ensures { λ r. ⌜ readingSaid r ≡ valueRead p id ⌝ }
 {
     match id {
         1..=12 => {
@@ -204,7 +204,7 @@ pub fn missing(p: Params) -> [u8; 8]
 
 // Whether each value is in its row, and parameter 1 below parameter 2.
 pub fn sound(p: Params) -> bool
-    ensures { λ r. ⌜ r ≡ soundOf p ⌝ }
+    ensures { λ r. ⌜ r ≡ soundParams p ⌝ }
 {
     let table = ROWS;
     let mut ok = true;

@@ -9,26 +9,26 @@ use borrow.Author.Tests.{lt-ltb, le-ltb, eq-eqb, ne-eqb, ltb-true, ltb-false, eq
 use lib.Dec.{ltb, eqb}
 use Rattle.pipe.specs.declared.Input.{Input}
 use Rattle.pipe.specs.declared.Piped.{Piped}
-use Rattle.pipe.specs.Input.{held, piped, emptyInput, gathers, byteOf, countUp, timeoutOf}
+use Rattle.pipe.specs.Input.{heldIn, piped, emptyInput, gathers, pipeByte, countUp, pipeTimeout}
 
 -- one of the first seven bytes gathers, and nothing is sent
-pub byte-gathers : (i : Input) (b : ℕ) → i .gathered < 7 → byteOf i b ≡ piped [] (gathers i b)
-unfolding byteOf
+pub byte-gathers : (i : Input) (b : ℕ) → i .gathered < 7 → pipeByte i b ≡ piped [] (gathers i b)
+unfolding pipeByte
 byte-gathers i b h = simp (lt-ltb (i .gathered) 7 h)
 
 -- the eighth sends all eight, and nothing stays gathered
-pub byte-sends : (i : Input) (b : ℕ) → 7 ≤ i .gathered → byteOf i b ≡ piped (held i ++ (b ∷ [])) (emptyInput (i .timeouts))
-unfolding byteOf
+pub byte-sends : (i : Input) (b : ℕ) → 7 ≤ i .gathered → pipeByte i b ≡ piped (heldIn i ++ (b ∷ [])) (emptyInput (i .timeouts))
+unfolding pipeByte
 byte-sends i b h = simp (le-ltb (i .gathered) 7 h)
 
 -- a timeout with none gathered does nothing
-pub timeout-idle : (i : Input) → i .gathered ≡ 0 → timeoutOf i ≡ piped [] i
-unfolding timeoutOf
+pub timeout-idle : (i : Input) → i .gathered ≡ 0 → pipeTimeout i ≡ piped [] i
+unfolding pipeTimeout
 timeout-idle i h = simp (eq-eqb (i .gathered) 0 h)
 
 -- a timeout with some gathered sends them, counts, and nothing stays gathered
-pub timeout-sends : (i : Input) → 1 ≤ i .gathered → timeoutOf i ≡ piped (held i) (emptyInput (countUp (i .timeouts)))
-unfolding timeoutOf
+pub timeout-sends : (i : Input) → 1 ≤ i .gathered → pipeTimeout i ≡ piped (heldIn i) (emptyInput (countUp (i .timeouts)))
+unfolding pipeTimeout
 timeout-sends i h = simp (ne-eqb (i .gathered) 0 (λ e. omega arith))
 
 by-test : (P : Piped → Type 0) (t : Bool) {x y : Piped} → (t ≡ true → P x) → (t ≡ false → P y) → P (cond t x y)
@@ -36,12 +36,12 @@ by-test P true f g = f refl
 by-test P false f g = g refl
 
 -- what holds of both cases of a byte holds of it
-pub byte-cases : (P : Piped → Type 0) (i : Input) (b : ℕ) → (i .gathered < 7 → P (piped [] (gathers i b))) → (7 ≤ i .gathered → P (piped (held i ++ (b ∷ [])) (emptyInput (i .timeouts)))) → P (byteOf i b)
-unfolding byteOf
+pub byte-cases : (P : Piped → Type 0) (i : Input) (b : ℕ) → (i .gathered < 7 → P (piped [] (gathers i b))) → (7 ≤ i .gathered → P (piped (heldIn i ++ (b ∷ [])) (emptyInput (i .timeouts)))) → P (pipeByte i b)
+unfolding pipeByte
 byte-cases P i b f g = by-test P (ltb (i .gathered) 7) (λ e. f (ltb-true (i .gathered) 7 e)) (λ e. g (ltb-false (i .gathered) 7 e))
 
 -- what holds of both cases of a timeout holds of it
-pub timeout-cases : (P : Piped → Type 0) (i : Input) → (i .gathered ≡ 0 → P (piped [] i)) → (1 ≤ i .gathered → P (piped (held i) (emptyInput (countUp (i .timeouts))))) → P (timeoutOf i)
-unfolding timeoutOf
+pub timeout-cases : (P : Piped → Type 0) (i : Input) → (i .gathered ≡ 0 → P (piped [] i)) → (1 ≤ i .gathered → P (piped (heldIn i) (emptyInput (countUp (i .timeouts))))) → P (pipeTimeout i)
+unfolding pipeTimeout
 timeout-cases P i f g =
     by-test P (eqb (i .gathered) 0) (λ e. f (eqb-true (i .gathered) 0 e)) (λ e. let some = eqb-false (i .gathered) 0 e in g (omega (arith, some)))

@@ -9,7 +9,7 @@ use borrow.Author.Tests.{ne-eqb}
 use lib.Dec.{eqb}
 use lib.ListN.{length}
 use Rattle.pipe.specs.declared.Input.{Input}
-use Rattle.pipe.specs.Input.{held, packet, emptyInput, freshInput, gathers, byteOf, countUp, timeoutOf}
+use Rattle.pipe.specs.Input.{heldIn, sentPacket, emptyInput, freshInput, gathers, pipeByte, countUp, pipeTimeout}
 use Rattle.pipe.proofs.Runs.{Call, called, after, short, shorts, oneByOne}
 use Rattle.pipe.proofs.Runs.Call.{byte, timeout}
 use Rattle.pipe.proofs.Cases.{byte-cases, timeout-cases}
@@ -17,18 +17,18 @@ use Rattle.pipe.proofs.Held.{Whole, length-held, whole-empty}
 use Rattle.pipe.proofs.Laws.{whole-called}
 
 -- a byte counts nothing
-pub byte-count : (i : Input) (b : ℕ) → byteOf i b .input .timeouts ≡ i .timeouts
+pub byte-count : (i : Input) (b : ℕ) → pipeByte i b .input .timeouts ≡ i .timeouts
 unfolding gathers emptyInput
 byte-count i b = byte-cases (λ p. p .input .timeouts ≡ i .timeouts) i b (λ l. refl) (λ l. refl)
 
 -- a timeout counts one where it sent something, and then stays at 15
-pub timeout-count : (i : Input) → Whole i → timeoutOf i .input .timeouts ≡ cond (eqb (timeoutOf i .sent .count) 0) (i .timeouts) (countUp (i .timeouts))
-unfolding emptyInput packet
+pub timeout-count : (i : Input) → Whole i → pipeTimeout i .input .timeouts ≡ cond (eqb (pipeTimeout i .sent .count) 0) (i .timeouts) (countUp (i .timeouts))
+unfolding emptyInput sentPacket
 timeout-count i w =
     timeout-cases (λ p. p .input .timeouts ≡ cond (eqb (p .sent .count) 0) (i .timeouts) (countUp (i .timeouts))) i
     (λ l. refl)
     (λ l.
-    let some : eqb (length (held i)) 0 ≡ false = ne-eqb (length (held i)) 0 (λ e. omega (arith, length-held w)) in
+    let some : eqb (length (heldIn i)) 0 ≡ false = ne-eqb (length (heldIn i)) 0 (λ e. omega (arith, length-held w)) in
     rw some)
 
 -- counting by a test, as a sum
@@ -41,7 +41,7 @@ as-sum n false h = refl
 pub counts : (i : Input) (c : Call) → Whole i → i .timeouts ≤ 15 → called i c .input .timeouts ≡ min (i .timeouts + short c (called i c .sent)) 15
 unfolding called short
 counts i (byte b) w h = let same = byte-count i b in omega arith
-counts i timeout w h = timeout-count i w ∙ as-sum (i .timeouts) (eqb (timeoutOf i .sent .count) 0) h
+counts i timeout w h = timeout-count i w ∙ as-sum (i .timeouts) (eqb (pipeTimeout i .sent .count) 0) h
 
 -- after any calls the count is the smaller of 15 and what was counted before with the timeouts that sent something
 pub counted-from : (i : Input) (cs : List Call) → Whole i → i .timeouts ≤ 15 → after i cs .timeouts ≡ min (i .timeouts + shorts i cs) 15
@@ -58,7 +58,7 @@ unfolding freshInput emptyInput
 counted-fresh cs = let shown = counted-from (emptyInput 0) cs (whole-empty 0) (omega arith) in omega arith
 
 one-by-one-from : (n : ℕ) (bs : List ℕ) → shorts (emptyInput n) (oneByOne bs) ≡ length bs
-unfolding shorts oneByOne called short byteOf gathers emptyInput timeoutOf packet held
+unfolding shorts oneByOne called short pipeByte gathers emptyInput pipeTimeout sentPacket heldIn
 one-by-one-from n [] = refl
 one-by-one-from n (b ∷ bs) = let more = one-by-one-from (countUp n) bs in omega arith
 

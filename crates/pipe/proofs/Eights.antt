@@ -11,7 +11,7 @@ use lib.ListN.{length, take, drop, length-append, take-append-drop, length-drop}
 use lib.Seq.{take-at, drop-at, drop-drop, append-snoc}
 use Rattle.pipe.specs.declared.Input.{Input}
 use Rattle.pipe.specs.declared.Sent.{Sent}
-use Rattle.pipe.specs.Input.{held, packet, listOf, emptyInput, freshInput, gathers}
+use Rattle.pipe.specs.Input.{heldIn, sentPacket, sentBytes, emptyInput, freshInput, gathers}
 use Rattle.pipe.proofs.Runs.{called, after, sends, packets, cut, eights, over}
 use Rattle.pipe.proofs.Runs.Call.{byte}
 use Rattle.pipe.proofs.Cases.{byte-cases}
@@ -40,15 +40,15 @@ over-more ys xs h =
     rw more (sym (drop-drop (length xs / 8 * 8) 8 (ys ++ xs)) ∙ rw (drop-at ys xs 8 h))
 
 -- the first packet of some: a list of no bytes is left out
-first-none : (ss : List Sent) → packets (packet [] ∷ ss) ≡ packets ss
-unfolding packets packet
+first-none : (ss : List Sent) → packets (sentPacket [] ∷ ss) ≡ packets ss
+unfolding packets sentPacket
 first-none ss = refl
 
-first-some : (xs : List ℕ) (ss : List Sent) → 1 ≤ length xs → packets (packet xs ∷ ss) ≡ xs ∷ packets ss
-unfolding packets packet
+first-some : (xs : List ℕ) (ss : List Sent) → 1 ≤ length xs → packets (sentPacket xs ∷ ss) ≡ xs ∷ packets ss
+unfolding packets sentPacket
 first-some xs ss h =
     let some : eqb (length xs) 0 ≡ false = ne-eqb (length xs) 0 (λ e. omega arith) in
-    let list : listOf (packet xs) ≡ xs = listed xs in
+    let list : sentBytes (sentPacket xs) ≡ xs = listed xs in
     rw (some, list)
 
 -- these packets and what is left are this list cut into eights
@@ -56,7 +56,7 @@ pub record Cut (sent : List (List ℕ)) (left whole : List ℕ) : Type 0 where
   pub packets : sent ≡ eights whole
   pub rest : left ≡ over whole
 
-full : (ys xs left : List ℕ) (ss : List Sent) → length ys ≡ 8 → Cut (packets ss) left xs → Cut (packets (packet ys ∷ ss)) left (ys ++ xs)
+full : (ys xs left : List ℕ) (ss : List Sent) → length ys ≡ 8 → Cut (packets ss) left xs → Cut (packets (sentPacket ys ∷ ss)) left (ys ++ xs)
 full ys xs left ss h k =
     record {
       packets = first-some ys ss (omega arith) ∙ ap (λ (t : List (List ℕ)). ys ∷ t) (k .packets) ∙ sym (eight-more ys xs h);
@@ -64,23 +64,23 @@ full ys xs left ss h k =
     }
 
 -- bytes alone are sent as the held ones with them behind, cut into eights; what is over is held
-pub eights-from : (i : Input) (xs : List ℕ) → Whole i → Cut (packets (sends i (map byte xs))) (held (after i (map byte xs))) (held i ++ xs)
+pub eights-from : (i : Input) (xs : List ℕ) → Whole i → Cut (packets (sends i (map byte xs))) (heldIn (after i (map byte xs))) (heldIn i ++ xs)
 unfolding sends after called packets
 eights-from i [] w =
-    let few : length (held i) < 8 = omega (arith, length-held w, w .few) in
-    rw append-nil (record { packets = sym (few-eights (held i) few); rest = sym (few-over (held i) few) })
+    let few : length (heldIn i) < 8 = omega (arith, length-held w, w .few) in
+    rw append-nil (record { packets = sym (few-eights (heldIn i) few); rest = sym (few-over (heldIn i) few) })
 eights-from i (b ∷ xs) w =
-    let snoc : held i ++ (b ∷ []) ++ xs ≡ held i ++ (b ∷ xs) = append-snoc (held i) b xs in
-    byte-cases (λ p. Cut (packets (p .sent ∷ sends (p .input) (map byte xs))) (held (after (p .input) (map byte xs))) (held i ++ (b ∷ xs))) i b
+    let snoc : heldIn i ++ (b ∷ []) ++ xs ≡ heldIn i ++ (b ∷ xs) = append-snoc (heldIn i) b xs in
+    byte-cases (λ p. Cut (packets (p .sent ∷ sends (p .input) (map byte xs))) (heldIn (after (p .input) (map byte xs))) (heldIn i ++ (b ∷ xs))) i b
     (λ l. rw (first-none, ← snoc, ← held-gathers b w) (eights-from (gathers i b) xs (whole-gathers b l w)))
     (λ l.
-    let long : length (held i ++ (b ∷ [])) ≡ 8 = rw length-append (omega (arith, length-held w, w .few)) in
-    let next : Cut (packets (sends (emptyInput (i .timeouts)) (map byte xs))) (held (after (emptyInput (i .timeouts)) (map byte xs))) xs =
+    let long : length (heldIn i ++ (b ∷ [])) ≡ 8 = rw length-append (omega (arith, length-held w, w .few)) in
+    let next : Cut (packets (sends (emptyInput (i .timeouts)) (map byte xs))) (heldIn (after (emptyInput (i .timeouts)) (map byte xs))) xs =
     rw (held-empty (i .timeouts)) at (eights-from (emptyInput (i .timeouts)) xs (whole-empty (i .timeouts))) in
-    rw (← snoc) (full (held i ++ (b ∷ [])) xs _ (sends (emptyInput (i .timeouts)) (map byte xs)) long next))
+    rw (← snoc) (full (heldIn i ++ (b ∷ [])) xs _ (sends (emptyInput (i .timeouts)) (map byte xs)) long next))
 
 -- n bytes from nothing gathered are sent as the list cut into eights says, and what is over is held
-pub eights-sent : (xs : List ℕ) → Cut (packets (sends freshInput (map byte xs))) (held (after freshInput (map byte xs))) xs
+pub eights-sent : (xs : List ℕ) → Cut (packets (sends freshInput (map byte xs))) (heldIn (after freshInput (map byte xs))) xs
 unfolding freshInput
 eights-sent xs = rw (held-empty 0) at (eights-from (emptyInput 0) xs (whole-empty 0))
 

@@ -8,7 +8,7 @@ use native.Mathlib.Numerals.{add-one}
 use lib.ListN.{length, length-take, length-set, length-append, length-replicate}
 use lib.Seq.{take-suc-set, take-append-seam}
 use Rattle.pipe.specs.declared.Input.{Input}
-use Rattle.pipe.specs.Input.{held, packet, listOf, emptyInput, freshInput, gathers, byteOf, timeoutOf}
+use Rattle.pipe.specs.Input.{heldIn, sentPacket, sentBytes, emptyInput, freshInput, gathers, pipeByte, pipeTimeout}
 use Rattle.pipe.proofs.Cases.{byte-cases, timeout-cases}
 
 -- an input as the code can hold it within the bounds: an array of eight, and at most 7 gathered
@@ -17,35 +17,35 @@ pub record Whole (i : Input) : Type 0 where
   pub few : i .gathered ≤ 7
 
 -- as many bytes are held as are gathered
-pub length-held : {i : Input} → Whole i → length (held i) ≡ i .gathered
-unfolding held
+pub length-held : {i : Input} → Whole i → length (heldIn i) ≡ i .gathered
+unfolding heldIn
 length-held {i} w = let long = w .long in let few = w .few in rw length-take (omega arith)
 
 -- a byte more is held behind the others
-pub held-gathers : {i : Input} (b : ℕ) → Whole i → held (gathers i b) ≡ held i ++ (b ∷ [])
-unfolding held gathers
+pub held-gathers : {i : Input} (b : ℕ) → Whole i → heldIn (gathers i b) ≡ heldIn i ++ (b ∷ [])
+unfolding heldIn gathers
 held-gathers {i} b w =
     let inside : i .gathered < length (i .bytes) = omega (arith, w .long, w .few) in
     rw add-one (take-suc-set (i .bytes) (i .gathered) b inside)
 
 -- an emptied input holds nothing
-pub held-empty : (n : ℕ) → held (emptyInput n) ≡ []
-unfolding held emptyInput
+pub held-empty : (n : ℕ) → heldIn (emptyInput n) ≡ []
+unfolding heldIn emptyInput
 held-empty n = refl
 
 -- a packet sends its list
-pub listed : (xs : List ℕ) → listOf (packet xs) ≡ xs
-unfolding listOf packet
+pub listed : (xs : List ℕ) → sentBytes (sentPacket xs) ≡ xs
+unfolding sentBytes sentPacket
 listed xs = take-append-seam xs _
 
 -- a packet counts its list
-pub count-packet : (xs : List ℕ) → packet xs .count ≡ length xs
-unfolding packet
+pub count-packet : (xs : List ℕ) → sentPacket xs .count ≡ length xs
+unfolding sentPacket
 count-packet xs = refl
 
 -- a packet of at most eight bytes is an array of eight
-pub length-packet : (xs : List ℕ) → length xs ≤ 8 → length (packet xs .bytes) ≡ 8
-unfolding packet
+pub length-packet : (xs : List ℕ) → length xs ≤ 8 → length (sentPacket xs .bytes) ≡ 8
+unfolding sentPacket
 length-packet xs h = simp (length-append, length-replicate) (omega arith)
 
 -- an emptied input is whole
@@ -64,10 +64,10 @@ unfolding freshInput
 whole-fresh = whole-empty 0
 
 -- a byte keeps an input whole
-pub whole-byte : {i : Input} (b : ℕ) → Whole i → Whole (byteOf i b .input)
+pub whole-byte : {i : Input} (b : ℕ) → Whole i → Whole (pipeByte i b .input)
 whole-byte {i} b w =
     byte-cases (λ p. Whole (p .input)) i b (λ l. whole-gathers b l w) (λ l. whole-empty (i .timeouts))
 
 -- a timeout keeps an input whole
-pub whole-timeout : {i : Input} → Whole i → Whole (timeoutOf i .input)
+pub whole-timeout : {i : Input} → Whole i → Whole (pipeTimeout i .input)
 whole-timeout {i} w = timeout-cases (λ p. Whole (p .input)) i (λ l. w) (λ l. whole-empty _)

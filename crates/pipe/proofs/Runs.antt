@@ -7,7 +7,7 @@ use lib.ListN.{length, take, drop}
 use Rattle.pipe.specs.declared.Input.{Input}
 use Rattle.pipe.specs.declared.Sent.{Sent}
 use Rattle.pipe.specs.declared.Piped.{Piped}
-use Rattle.pipe.specs.Input.{listOf, byteOf, timeoutOf}
+use Rattle.pipe.specs.Input.{sentBytes, pipeByte, pipeTimeout}
 
 -- a call: a byte from the camera, or the timeout
 pub data Call : Type 0 where
@@ -16,8 +16,8 @@ pub data Call : Type 0 where
 
 -- what a call gives
 unfoldable pub called : Input → Call → Piped
-called i (byte b) = byteOf i b
-called i timeout = timeoutOf i
+called i (byte b) = pipeByte i b
+called i timeout = pipeTimeout i
 
 -- the input after these calls
 unfoldable pub after : Input → List Call → Input
@@ -42,7 +42,7 @@ given (c ∷ cs) = brought c ++ given cs
 -- the lists that are sent, without those of no bytes
 unfoldable pub packets : List Sent → List (List ℕ)
 packets [] = []
-packets (s ∷ ss) = cond (eqb (s .count) 0) (packets ss) (listOf s ∷ packets ss)
+packets (s ∷ ss) = cond (eqb (s .count) 0) (packets ss) (sentBytes s ∷ packets ss)
 
 -- the first n eights of a list
 unfoldable pub cut : ℕ → List ℕ → List (List ℕ)

@@ -7,7 +7,7 @@ use native.Mathlib.Omega.{arith}
 use lib.ListN.{length}
 use Rattle.pipe.specs.declared.Input.{Input}
 use Rattle.pipe.specs.declared.Piped.{Piped}
-use Rattle.pipe.specs.Input.{held, emptyInput, gathers, byteOf, countUp, timeoutOf}
+use Rattle.pipe.specs.Input.{heldIn, emptyInput, gathers, pipeByte, countUp, pipeTimeout}
 use Rattle.pipe.proofs.Runs.{Call, called, sends}
 use Rattle.pipe.proofs.Runs.Call.{byte, timeout}
 use Rattle.pipe.proofs.Cases.{byte-cases, timeout-cases, byte-gathers, byte-sends, timeout-idle, timeout-sends}
@@ -17,7 +17,7 @@ use Rattle.pipe.proofs.Held.{Whole, length-held, held-gathers, whole-em
 pub record Alike (i j : Input) : Type 0 where
   pub left : Whole i
   pub right : Whole j
-  pub bytes : held i ≡ held j
+  pub bytes : heldIn i ≡ heldIn j
   pub counts : i .timeouts ≡ j .timeouts
 
 -- two calls that send the same array and count, and leave inputs that are alike
@@ -34,7 +34,7 @@ pub alike-refl : {i : Input} → Whole i → Alike i i
 alike-refl w = record { left = w; right = w; bytes = refl; counts = refl }
 
 alike-empty : (m n : ℕ) → m ≡ n → Alike (emptyInput m) (emptyInput n)
-unfolding emptyInput held
+unfolding emptyInput heldIn
 alike-empty m n e = record { left = whole-empty m; right = whole-empty n; bytes = refl; counts = e }
 
 alike-gathers : {i j : Input} (b : ℕ) → i .gathered < 7 → j .gathered < 7 → Alike i j → Alike (gathers i b) (gathers j b)
@@ -48,18 +48,18 @@ alike-gathers {i} {j} b l m a =
     }
 
 -- a byte shows no stale byte, and its next inputs are alike again
-pub alike-byte : {i j : Input} (b : ℕ) → Alike i j → Same (byteOf i b) (byteOf j b)
+pub alike-byte : {i j : Input} (b : ℕ) → Alike i j → Same (pipeByte i b) (pipeByte j b)
 alike-byte {i} {j} b a =
     let g = alike-gathered a in
-    byte-cases (λ p. Same p (byteOf j b)) i b
+    byte-cases (λ p. Same p (pipeByte j b)) i b
     (λ l. let m : j .gathered < 7 = omega arith in rw (byte-gathers j b m) (record { sent = refl; next = alike-gathers b l m a }))
     (λ l. rw (byte-sends j b (omega arith), a .bytes) (record { sent = refl; next = alike-empty (i .timeouts) (j .timeouts) (a .counts) }))
 
 -- nor does a timeout
-pub alike-timeout : {i j : Input} → Alike i j → Same (timeoutOf i) (timeoutOf j)
+pub alike-timeout : {i j : Input} → Alike i j → Same (pipeTimeout i) (pipeTimeout j)
 alike-timeout {i} {j} a =
     let g = alike-gathered a in
-    timeout-cases (λ p. Same p (timeoutOf j)) i
+    timeout-cases (λ p. Same p (pipeTimeout j)) i
     (λ l. rw (timeout-idle j (omega arith)) (record { sent = refl; next = a }))
     (λ l. rw (timeout-sends j (omega arith), a .bytes) (record { sent = refl; next = alike-empty (countUp (i .timeouts)) (countUp (j .timeouts)) (ap countUp (a .counts)) }))
 

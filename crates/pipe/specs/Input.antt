@@ -9,16 +9,16 @@ use Rattle.pipe.specs.declared.Sent.{Sent}
 use Rattle.pipe.specs.declared.Piped.{Piped}
 
 -- the bytes gathered so far, in the order in which they came
-unfoldable pub held : Input → List ℕ
-held i = take (i .gathered) (i .bytes)
+unfoldable pub heldIn : Input → List ℕ
+heldIn i = take (i .gathered) (i .bytes)
 
 -- these bytes sent: an array of eight with zeros behind them, and their count
-unfoldable pub packet : List ℕ → Sent
-packet xs = record { bytes = xs ++ replicate (8 - length xs) 0; count = length xs }
+unfoldable pub sentPacket : List ℕ → Sent
+sentPacket xs = record { bytes = xs ++ replicate (8 - length xs) 0; count = length xs }
 
 -- the list that is sent: the first `count` bytes of the array
-unfoldable pub listOf : Sent → List ℕ
-listOf s = take (s .count) (s .bytes)
+unfoldable pub sentBytes : Sent → List ℕ
+sentBytes s = take (s .count) (s .bytes)
 
 -- nothing gathered, after so many timeouts
 unfoldable pub emptyInput : ℕ → Input
@@ -34,29 +34,29 @@ gathers i b = record { bytes = set (i .bytes) (i .gathered) b; gathered = i .gat
 
 -- what a call gives: these bytes sent, and the input after it
 abbrev pub piped : List ℕ → Input → Piped
-piped xs i = record { sent = packet xs; input = i }
+piped xs i = record { sent = sentPacket xs; input = i }
 
 -- "Pipe bytes gather; the eighth sends all eight."
-unfoldable pub byteOf : Input → ℕ → Piped
-byteOf i b =
+unfoldable pub pipeByte : Input → ℕ → Piped
+pipeByte i b =
     cond (ltb (i .gathered) 7)
     (piped [] (gathers i b))
-    (piped (held i ++ (b ∷ [])) (emptyInput (i .timeouts)))
+    (piped (heldIn i ++ (b ∷ [])) (emptyInput (i .timeouts)))
 
 -- "counts one up to 15 (it stays 15)"
 unfoldable pub countUp : ℕ → ℕ
 countUp n = min (n + 1) 15
 
 -- "The pipe timeout sends a short packet and counts one up to 15 (it stays 15); with none gathered it does nothing."
-unfoldable pub timeoutOf : Input → Piped
-timeoutOf i =
+unfoldable pub pipeTimeout : Input → Piped
+pipeTimeout i =
     cond (eqb (i .gathered) 0)
     (piped [] i)
-    (piped (held i) (emptyInput (countUp (i .timeouts))))
+    (piped (heldIn i) (emptyInput (countUp (i .timeouts))))
 
 -- "0 to 7 bytes gathered; timeouts 0 to 15"
-unfoldable pub soundOf : Input → Bool
-soundOf i = leb (i .gathered) 7 && leb (i .timeouts) 15
+unfoldable pub soundInput : Input → Bool
+soundInput i = leb (i .gathered) 7 && leb (i .timeouts) 15
 
 -- "when 1 to 7 bytes are gathered"
 unfoldable pub gatheringOf : Input → Bool

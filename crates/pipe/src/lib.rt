@@ -2,13 +2,19 @@
 ghost use mathlib.Core.Path.{_≡_};
 ghost use Prim.Native.Nat.{_≤_};
 ghost use lib.ListN.{take};
-ghost use Rattle.pipe.specs.Input.{packet, emptyInput, freshInput, countUp, byteOf, timeoutOf, soundOf, gatheringOf};
+ghost use Rattle.pipe.specs.Input.{sentPacket, emptyInput, freshInput, countUp, pipeByte, pipeTimeout, soundInput, gatheringOf};
+ghost use Rattle.pipe.specs.Pipe.{freshPipe, soundPipe};
 
 // Up to seven bytes gathered from the start of the array, and the timeouts that sent something.
 pub struct Input {
     pub bytes: [u8; 8],
     pub gathered: usize,
     pub timeouts: u8,
+}
+
+// The pipe as the pod holds it.
+pub struct Pipe {
+    pub input: Input,
 }
 
 // What is sent: the first `count` bytes of the array, and zeros behind them.
@@ -26,7 +32,7 @@ pub struct Piped {
 // The packet of the first n bytes. Bytes left behind them by an earlier packet are not handed out.
 fn first(bytes: [u8; 8], n: usize) -> Sent
     requires { ⌜ n ≤ 8 ⌝ }
-    ensures { λ r. ⌜ r ≡ packet (take n bytes) ⌝ }
+    ensures { λ r. ⌜ r ≡ sentPacket (take n bytes) ⌝ }
 {
     let mut sent = bytes;
     for i in n..8 {
@@ -67,7 +73,7 @@ impl Input {
     // One byte more; the eighth sends all eight.
     pub fn byte(mut self, b: u8) -> Piped
         requires { ⌜ self .gathered ≤ 7 ⌝ }
-        ensures { λ r. ⌜ r ≡ byteOf self b ⌝ }
+        ensures { λ r. ⌜ r ≡ pipeByte self b ⌝ }
     {
         let at = self.gathered;
         self.bytes[at] = b;
@@ -89,7 +95,7 @@ impl Input {
     // What is gathered goes as a short packet and one is counted, up to 15; with none gathered nothing happens.
     pub fn timeout(self) -> Piped
         requires { ⌜ self .gathered ≤ 7 ⌝ }
-        ensures { λ r. ⌜ r ≡ timeoutOf self ⌝ }
+        ensures { λ r. ⌜ r ≡ pipeTimeout self ⌝ }
     {
         let n = self.gathered;
         let bytes = self.bytes;
@@ -107,7 +113,7 @@ impl Input {
 
     // Whether the bounds hold: at most 7 bytes gathered and at most 15 timeouts.
     pub fn sound(self) -> bool
-        ensures { λ r. ⌜ r ≡ soundOf self ⌝ }
+        ensures { λ r. ⌜ r ≡ soundInput self ⌝ }
     {
         (self.gathered <= 7) & (self.timeouts <= 15)
     }
@@ -117,5 +123,23 @@ impl Input {
         ensures { λ r. ⌜ r ≡ gatheringOf self ⌝ }
     {
         (1 <= self.gathered) & (self.gathered <= 7)
+    }
+}
+
+impl Pipe {
+    // As from power and after Initialise.
+    pub fn fresh() -> Pipe
+        ensures { λ r. ⌜ r ≡ freshPipe ⌝ }
+    {
+        Pipe {
+            input: Input::fresh(),
+        }
+    }
+
+    // Whether the bounds hold.
+    pub fn sound(self) -> bool
+        ensures { λ r. ⌜ r ≡ soundPipe self ⌝ }
+    {
+        self.input.sound()
     }
 }

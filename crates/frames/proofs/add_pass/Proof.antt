@@ -6,10 +6,10 @@ use mathlib.Core.List.{List}
 use native.Mathlib.Omega.{arith}
 use borrow.Author.Needs.{needs}
 use lib.ListN.{getD, set}
-use Rattle.frames.specs.Samples.{sumOf, sumsOf}
+use Rattle.frames.specs.Samples.{sumOf}
 use Rattle.frames.proofs.Mixed.{mixed, mixed-at, mixed-more, mixed-all}
 use Rattle.frames.proofs.Bounds.{each-bounded}
-use Rattle.frames.proofs.Sums.{sums-at, length-sums, sum-more, sum-most}
+use Rattle.frames.proofs.Sums.{sumsOf, sums-at, length-sums, sum-more, sum-most}
 use Rattle.frames.proofs.add_pass.Statement.{statement}
 use Rattle.frames.proofs.add_pass.Tie as tie
 

@@ -4,8 +4,7 @@ use Prim.Native.Nat.{_≤_, _-_}
 use mathlib.Core.Path.{_≡_, sym}
 use native.Mathlib.Omega.{arith}
 use borrow.Author.Needs.{needs}
-use Rattle.frames.specs.Samples.{sumsOf}
-use Rattle.frames.proofs.Sums.{sums-none, averages-divided}
+use Rattle.frames.proofs.Sums.{sumsOf, sums-none, averages-divided}
 use Rattle.frames.proofs.averages.Statement.{statement}
 use Rattle.frames.proofs.averages.Tie as tie
 

@@ -87,7 +87,7 @@ returns c =
       c .before .low3 .ensures,
       c .high3 .ensures,
     )
-    (sym (bytes-03 (args .t1) (args .input) (args .initialised) (args .selfcheck)))
+    (sym (bytes-03 (args .t1) (args .pipe) (args .initialised) (args .selfcheck)))
 
 pub three-spec : {M : Type 1} → statement M
 three-spec =

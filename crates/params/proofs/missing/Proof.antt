@@ -12,7 +12,7 @@ use native.Mathlib.Omega.{arith}
 use native.Mathlib.Nat.{not-suc-le-zero, le-of-suc-le-suc}
 use native.Mathlib.Numerals.{add-one}
 use Rattle.params.specs.declared.Params.{Params}
-use Rattle.params.specs.Rows.{ids, rows, noRow}
+use Rattle.params.specs.Rows.{paramIds, paramRows, noParamRow}
 use Rattle.params.specs.Rules.{filter, isMissing, missingIds, missingOf}
 use Rattle.params.proofs.Laws.{missing-few}
 use Rattle.params.proofs.missing.Statement.{statement}
@@ -31,12 +31,12 @@ from-at k (suc n) (suc i) h = from-at (suc k) n i (le-of-suc-le-suc h) ∙ omega
 
 -- the missing ids that are left from place i on
 unfoldable left : Params → ℕ → List ℕ
-left p i = filter (isMissing p) (drop i ids)
+left p i = filter (isMissing p) (drop i paramIds)
 
 module _ (p : Params) (i : ℕ) (h : i < 12) where
   -- place i has the id i + 1
-  next : drop i ids ≡ (i + 1) ∷ drop (i + 1) ids
-  next = rw (drop-cons ids i 0 h, from-at 1 12 i h, add-one)
+  next : drop i paramIds ≡ (i + 1) ∷ drop (i + 1) paramIds
+  next = rw (drop-cons paramIds i 0 h, from-at 1 12 i h, add-one)
 
   left-yes : isMissing p (i + 1) ≡ true → left p i ≡ (i + 1) ∷ left p (i + 1)
   unfolding left filter
@@ -47,7 +47,7 @@ module _ (p : Params) (i : ℕ) (h : i < 12) where
   left-no e = rw (next, e)
 
 abbrev Inv-loop : tie.InvT-loop
-Inv-loop p table out₀ n₀ i₀ out n i = (table ≡ rows) × (i ≤ 12) × (n + length (left p i) ≤ 5) × (sets out n (left p i) ≡ missingOf p)
+Inv-loop p table out₀ n₀ i₀ out n i = (table ≡ paramRows) × (i ≤ 12) × (n + length (left p i) ≤ 5) × (sets out n (left p i) ≡ missingOf p)
 
 abbrev μ-loop : tie.MeasureT-loop
 μ-loop p table out₀ n₀ i₀ out n i = 12 - i
@@ -75,7 +75,7 @@ cast-out c = search needs
 tested : (c : tie.After-struct-known Inv-loop μ-loop) →
     let i = c .before .before .before .before .loop .i in
     let p = c .before .before .before .before .before .args .t1 in
-    isMissing p (i + 1) ≡ getD rows i noRow .asked && not (getD (p .written) i false)
+    isMissing p (i + 1) ≡ getD paramRows i noParamRow .asked && not (getD (p .written) i false)
 tested c =
     let i = c .before .before .before .before .loop .i in
     let place : i + 1 - 1 ≡ i = omega arith in

@@ -12,24 +12,24 @@ use mir.Val.{toZ, ofZ}
 use borrow.Author.Needs.{needs}
 use native.Mathlib.Omega.{arith}
 use native.Mathlib.Numerals.{add-one}
-use Rattle.params.specs.Rows.{rows, noRow}
-use Rattle.params.specs.Rules.{inRow, inRows, soundOf}
+use Rattle.params.specs.Rows.{paramRows, noParamRow}
+use Rattle.params.specs.Rules.{inRow, inRows, soundParams}
 use Rattle.params.proofs.sound.Statement.{statement}
 use Rattle.params.proofs.sound.Tie as tie
 
 module _ (ok : Bool) (vs : List ℤ) where
   -- the next value in its row, and then those that are left
-  next : (i : ℕ) → i < 12 → i < length vs → ok && inRows (drop i rows) (drop i vs) ≡ ok && inRow (getD rows i noRow) (getD vs i (pos 0)) && inRows (drop (i + 1) rows) (drop (i + 1) vs)
+  next : (i : ℕ) → i < 12 → i < length vs → ok && inRows (drop i paramRows) (drop i vs) ≡ ok && inRow (getD paramRows i noParamRow) (getD vs i (pos 0)) && inRows (drop (i + 1) paramRows) (drop (i + 1) vs)
   unfolding inRows
-  next i h k = rw (drop-cons rows i noRow h, drop-cons vs i (pos 0) k, add-one) (sym (and-assoc ok _ _))
+  next i h k = rw (drop-cons paramRows i noParamRow h, drop-cons vs i (pos 0) k, add-one) (sym (and-assoc ok _ _))
 
   -- after the last row none is left
-  end : length vs ≤ 12 → ok && inRows (drop 12 rows) (drop 12 vs) ≡ ok
+  end : length vs ≤ 12 → ok && inRows (drop 12 paramRows) (drop 12 vs) ≡ ok
   unfolding inRows
   end h = rw (drop-of-length-le vs h) (and-true ok)
 
 abbrev Inv-loop : tie.InvT-loop
-Inv-loop p table ok₀ i₀ ok i = (table ≡ rows) × (i ≤ 12) × (ok && inRows (drop i rows) (drop i (p .values)) ≡ inRows rows (p .values))
+Inv-loop p table ok₀ i₀ ok i = (table ≡ paramRows) × (i ≤ 12) × (ok && inRows (drop i paramRows) (drop i (p .values)) ≡ inRows paramRows (p .values))
 
 abbrev μ-loop : tie.MeasureT-loop
 μ-loop p table ok₀ i₀ ok i = 12 - i
@@ -70,7 +70,7 @@ in-span-requires : tie.Need-in-span-requires Inv-loop μ-loop
 in-span-requires c κs = search needs
 
 returns : tie.Need-returns Inv-loop μ-loop
-unfolding soundOf
+unfolding soundParams
 returns c =
     let at = c .before .before .loop in
     let vs = c .before .before .before .args .t1 .values in

@@ -12,24 +12,24 @@ use borrow.Author.Needs.{needs}
 use native.Mathlib.Omega.{arith}
 use native.Mathlib.Numerals.{add-one}
 use Rattle.params.specs.declared.Row.{Row}
-use Rattle.params.specs.Rows.{rows, noRow}
-use Rattle.params.specs.Rules.{startOf}
+use Rattle.params.specs.Rows.{paramRows, noParamRow}
+use Rattle.params.specs.Rules.{startParams}
 use Rattle.params.proofs.start.Statement.{statement}
 use Rattle.params.proofs.start.Tie as tie
 
 -- what is left of the starts begins with the next row's
-next : (i : ℕ) → i < 12 → drop i (startOf .values) ≡ getD rows i noRow .start ∷ drop (suc i) (startOf .values)
-unfolding startOf
-next i h = rw (drop-cons (startOf .values) i (pos 0) h, List·getD-map (λ (r : Row). r .start) rows i noRow)
+next : (i : ℕ) → i < 12 → drop i (startParams .values) ≡ getD paramRows i noParamRow .start ∷ drop (suc i) (startParams .values)
+unfolding startParams
+next i h = rw (drop-cons (startParams .values) i (pos 0) h, List·getD-map (λ (r : Row). r .start) paramRows i noParamRow)
 
 abbrev Inv-loop : tie.InvT-loop
-Inv-loop table values₀ i₀ values i = (table ≡ rows) × (i ≤ 12) × (sets values i (drop i (startOf .values)) ≡ startOf .values)
+Inv-loop table values₀ i₀ values i = (table ≡ paramRows) × (i ≤ 12) × (sets values i (drop i (startParams .values)) ≡ startParams .values)
 
 abbrev μ-loop : tie.MeasureT-loop
 μ-loop table values₀ i₀ values i = 12 - i
 
 loop-holds : tie.Need-loop-holds Inv-loop μ-loop
-unfolding startOf
+unfolding startParams
 loop-holds c = search needs
 
 mul-r : tie.Need-mul-r Inv-loop μ-loop
@@ -53,13 +53,13 @@ loop-less c = search needs
 loop-again : tie.Need-loop-again Inv-loop μ-loop
 loop-again c =
     let at = c .before .before .before .loop in
-    let r = getD rows (at .i) noRow in
+    let r = getD paramRows (at .i) noParamRow in
     let back : toZ w32 (ofZ w32 (r .start)) ≡ r .start = search needs in
     let turn = rw (next (at .i) (search needs)) at (at .inv .2) in
     (search needs, search needs, rw add-one (cc))
 
 returns : tie.Need-returns Inv-loop μ-loop
-unfolding startOf
+unfolding startParams
 returns c =
     let end : c .before .loop .i ≡ 12 = omega arith in
     rw (rw end at (c .before .loop .inv .2))

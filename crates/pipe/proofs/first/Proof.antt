@@ -6,7 +6,7 @@ use borrow.Author.Needs.{needs}
 use native.Mathlib.Omega.{arith}
 use mathlib.Core.List.{_++_}
 use lib.ListN.{length, take, set, replicate, length-take}
-use Rattle.pipe.specs.Input.{packet}
+use Rattle.pipe.specs.Input.{sentPacket}
 use Rattle.pipe.proofs.Zeros.{zeroed, zeroed-none, zeroed-more, zeroed-all}
 use Rattle.pipe.proofs.first.Statement.{statement}
 use Rattle.pipe.proofs.first.Tie as tie
@@ -39,7 +39,7 @@ loop-again c =
     (search needs, search needs, cc)
 
 returns : tie.Need-returns Inv-loop μ-loop
-unfolding packet
+unfolding sentPacket
 returns c =
     let bytes = c .before .before .args .bytes in
     let n = c .before .before .args .n in

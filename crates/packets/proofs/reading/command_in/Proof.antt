@@ -6,71 +6,71 @@ use mathlib.Core.Path.{_≡_, ap, _∙_}
 use mir.Syntax.{w32}
 use mir.Val.{toZ, ofZ}
 use lib.ListN.{length}
-use Rattle.packets.specs.Commands.{rowAt, findIn}
+use Rattle.packets.specs.Commands.{codeRow, findIn}
 use Rattle.packets.proofs.Rows.{last-code}
 use borrow.Author.Needs.{needs}
 use Rattle.packets.proofs.reading.command_in.Statement.{statement}
 use Rattle.packets.proofs.reading.command_in.Tie as tie
 
 -- the packet has as many bytes as its code
-held : (c : tie.Start) (k : ℕ) → c .args .code ≡ k → length (c .args .packet .now) ≡ rowAt k .bytes
-held c k e = c .pre .1 ∙ ap (λ (j : ℕ). rowAt j .bytes) e
+held : (c : tie.Start) (k : ℕ) → c .args .code ≡ k → length (c .args .packet .now) ≡ codeRow k .bytes
+held c k e = c .pre .1 ∙ ap (λ (j : ℕ). codeRow j .bytes) e
 
 fields-in-requires : tie.Need-fields-in-requires
-unfolding rowAt findIn
+unfolding codeRow findIn
 fields-in-requires c κs = omega (arith, held (c .before .before) 0x90 (c .match .keys1))
 
 fields-in-requires-2 : tie.Need-fields-in-requires-2
-unfolding rowAt findIn
+unfolding codeRow findIn
 fields-in-requires-2 c κs = omega (arith, held (c .before .before) 0x92 (c .match .keys3))
 
 shared-slice-read-t7 : tie.Need-shared-slice-read-t7
-unfolding rowAt findIn
+unfolding codeRow findIn
 shared-slice-read-t7 c = omega (arith, held (c .before .before .before) 0x93 (c .before .match .keys4))
 
 four-at-requires : tie.Need-four-at-requires
-unfolding rowAt findIn
+unfolding codeRow findIn
 four-at-requires c κs = omega (arith, held (c .before .before .before) 0x93 (c .before .match .keys4))
 
 signed-requires : tie.Need-signed-requires
 signed-requires c κs = search needs
 
 shared-slice-read-t11 : tie.Need-shared-slice-read-t11
-unfolding rowAt findIn
+unfolding codeRow findIn
 shared-slice-read-t11 c = omega (arith, held (c .before .before .before) 0x94 (c .before .match .keys5))
 
 returns : tie.Need-returns
-unfolding rowAt findIn
+unfolding codeRow findIn
 returns c = rw (c .before .match .keys1) (cc)
 
 returns-2 : tie.Need-returns-2
-unfolding rowAt findIn
+unfolding codeRow findIn
 returns-2 c = rw (c .match .keys2)
 
 returns-3 : tie.Need-returns-3
-unfolding rowAt findIn
+unfolding codeRow findIn
 returns-3 c = rw (c .before .match .keys3) (cc)
 
 returns-4 : tie.Need-returns-4
-unfolding rowAt findIn
+unfolding codeRow findIn
 returns-4 c =
     let back : toZ w32 (ofZ w32 (c .signed .result)) ≡ c .signed .result = search needs in
     rw (c .before .before .before .match .keys4) (cc)
 
 returns-5 : tie.Need-returns-5
-unfolding rowAt findIn
+unfolding codeRow findIn
 returns-5 c = rw (c .before .match .keys5)
 
 returns-6 : tie.Need-returns-6
-unfolding rowAt findIn
+unfolding codeRow findIn
 returns-6 c = rw (c .match .keys6)
 
 returns-7 : tie.Need-returns-7
-unfolding rowAt findIn
+unfolding codeRow findIn
 returns-7 c = rw (c .match .keys7)
 
 returns-8 : tie.Need-returns-8
-unfolding rowAt findIn
+unfolding codeRow findIn
 returns-8 c =
     let rest = c .match .rest in
     let a = c .before .before in

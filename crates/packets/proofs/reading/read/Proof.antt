@@ -8,7 +8,7 @@ use mathlib.Core.Bool.{true, false, not}
 use borrow.Author.Tests.{not-true, not-false, ne-eqb}
 use lib.ListN.{length}
 use Rattle.packets.specs.declared.Parsed.the-variants.{Asked}
-use Rattle.packets.specs.Commands.{rowAt, isCode, saidOf}
+use Rattle.packets.specs.Commands.{codeRow, isCode, parsedSaid}
 use Rattle.packets.specs.Reading.{first, crcRight, acknowledges}
 use Rattle.packets.proofs.Rows.{code-is}
 use Rattle.packets.proofs.Checks.{empty, short, damaged, acknowledged, unknown, second-wrong, length-wrong, asked}
@@ -36,16 +36,16 @@ code : (c : tie.Else5) → isCode (first (packet (asked-for (c .before)))) ≡ t
 code c =
     let called = asked-for (c .before) in
     code-is (first (packet called))
-    ∙ ap not (ne-eqb (rowAt (first (packet called)) .bytes) 0 (λ e. c .if5 .left (called .length-of .ensures ∙ e)))
+    ∙ ap not (ne-eqb (codeRow (first (packet called)) .bytes) 0 (λ e. c .if5 .left (called .length-of .ensures ∙ e)))
 
 returns : tie.Need-returns
-returns c = ap saidOf (sym (empty (c .before .before .args .packet .now) (c .if1 .taken)))
+returns c = ap parsedSaid (sym (empty (c .before .before .args .packet .now) (c .if1 .taken)))
 
 shared-slice-read-first : tie.Need-shared-slice-read-first
 shared-slice-read-first c = search needs
 
 returns-2 : tie.Need-returns-2
-returns-2 c = ap saidOf (sym (short (c .before .before .before .before .args .packet .now) (omega arith) (c .if2 .taken)))
+returns-2 c = ap parsedSaid (sym (short (c .before .before .before .before .args .packet .now) (omega arith) (c .if2 .taken)))
 
 shared-slice-read-second : tie.Need-shared-slice-read-second
 shared-slice-read-second c = search needs
@@ -59,7 +59,7 @@ length-of-requires c κs = search needs
 returns-3 : tie.Need-returns-3
 returns-3 c =
     let called = c .before in
-    ap saidOf (sym (damaged (packet called) (omega (arith, four called)) (sym (called .before .crc-right .ensures) ∙ not-true _ (c .if3 .taken))))
+    ap parsedSaid (sym (damaged (packet called) (omega (arith, four called)) (sym (called .before .crc-right .ensures) ∙ not-true _ (c .if3 .taken))))
 
 is-acknowledgement-requires : tie.Need-is-acknowledgement-requires
 is-acknowledgement-requires c κs = search needs
@@ -68,26 +68,26 @@ returns-4 : tie.Need-returns-4
 returns-4 c =
     let passed = c .before .before in
     let called = passed .before in
-    ap saidOf (sym (acknowledged (packet called) (four called) (right passed) (sym (c .before .is-acknowledgement .ensures) ∙ c .if4 .taken)))
+    ap parsedSaid (sym (acknowledged (packet called) (four called) (right passed) (sym (c .before .is-acknowledgement .ensures) ∙ c .if4 .taken)))
 
 returns-5 : tie.Need-returns-5
 returns-5 c =
     let passed = c .before in
     let called = asked-for passed in
-    ap saidOf (sym (unknown (packet called) (four called) (right (passed .before .before)) (no-form passed) (sym (called .length-of .ensures) ∙ c .if5 .taken)))
+    ap parsedSaid (sym (unknown (packet called) (four called) (right (passed .before .before)) (no-form passed) (sym (called .length-of .ensures) ∙ c .if5 .taken)))
 
 returns-6 : tie.Need-returns-6
 returns-6 c =
     let passed = c .before .before in
     let called = asked-for passed in
-    ap saidOf (sym (second-wrong (packet called) (four called) (right (passed .before .before)) (no-form passed) (code (c .before)) (c .if6 .taken)))
+    ap parsedSaid (sym (second-wrong (packet called) (four called) (right (passed .before .before)) (no-form passed) (code (c .before)) (c .if6 .taken)))
 
 returns-7 : tie.Need-returns-7
 returns-7 c =
     let passed = c .before .before .before in
     let called = asked-for passed in
-    let other : length (packet called) ≡ rowAt (first (packet called)) .bytes → ⊥ = λ e. c .if7 .taken (e ∙ sym (called .length-of .ensures)) in
-    ap saidOf (sym (length-wrong (packet called) (four called) (right (passed .before .before)) (no-form passed) (code (c .before .before)) (c .before .if6 .left) other))
+    let other : length (packet called) ≡ codeRow (first (packet called)) .bytes → ⊥ = λ e. c .if7 .taken (e ∙ sym (called .length-of .ensures)) in
+    ap parsedSaid (sym (length-wrong (packet called) (four called) (right (passed .before .before)) (no-form passed) (code (c .before .before)) (c .before .if6 .left) other))
 
 command-in-requires : tie.Need-command-in-requires
 command-in-requires c κs =
@@ -97,8 +97,8 @@ returns-8 : tie.Need-returns-8
 returns-8 c =
     let passed = c .before .before .before .before in
     let called = asked-for passed in
-    let long : length (packet called) ≡ rowAt (first (packet called)) .bytes = c .before .if7 .left ∙ called .length-of .ensures in
-    ap saidOf (
+    let long : length (packet called) ≡ codeRow (first (packet called)) .bytes = c .before .if7 .left ∙ called .length-of .ensures in
+    ap parsedSaid (
     ap Asked (c .command-in .ensures)
     ∙ sym (asked (packet called) (four called) (right (passed .before .before)) (no-form passed) (code (c .before .before .before)) (c .before .before .if6 .left) long)
     )

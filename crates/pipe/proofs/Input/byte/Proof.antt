@@ -5,7 +5,7 @@ use mathlib.Core.List.{[], _∷_, _++_}
 use native.Mathlib.Omega.{arith}
 use lib.ListN.{take, set}
 use lib.Seq.{take-suc-set}
-use Rattle.pipe.specs.Input.{held, gathers}
+use Rattle.pipe.specs.Input.{heldIn, gathers}
 use Rattle.pipe.proofs.Cases.{byte-gathers, byte-sends}
 use borrow.Author.Needs.{needs}
 use Rattle.pipe.proofs.Input.byte.Statement.{statement}
@@ -33,7 +33,7 @@ returns c =
     cc (byte-gathers (args .t1) (args .b) (omega arith))
 
 returns-2 : tie.Need-returns-2
-unfolding held
+unfolding heldIn
 returns-2 c =
     let args = c .before .before .before .before .args in
     let at : args .t1 .gathered ≡ 7 = omega arith in

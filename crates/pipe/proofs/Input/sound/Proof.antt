@@ -1,12 +1,12 @@
 -- `pipe::Input::sound` meets its contract.
 -- Assumes nothing.
 use borrow.Author.Needs.{needs}
-use Rattle.pipe.specs.Input.{soundOf}
+use Rattle.pipe.specs.Input.{soundInput}
 use Rattle.pipe.proofs.Input.sound.Statement.{statement}
 use Rattle.pipe.proofs.Input.sound.Tie as tie
 
 returns : tie.Need-returns
-unfolding soundOf
+unfolding soundInput
 returns c = search needs
 
 pub sound-spec : {M : Type 1} → statement M

@@ -1,7 +1,7 @@
 -- `pipe::Input::timeout` meets its contract: one case law for each branch.
 -- Assumes nothing.
 use native.Mathlib.Omega.{arith}
-use Rattle.pipe.specs.Input.{held}
+use Rattle.pipe.specs.Input.{heldIn}
 use Rattle.pipe.proofs.Cases.{timeout-idle, timeout-sends}
 use borrow.Author.Needs.{needs}
 use Rattle.pipe.proofs.Input.timeout.Statement.{statement}
@@ -23,7 +23,7 @@ emptied-requires : tie.Need-emptied-requires
 emptied-requires c κs = search needs
 
 returns-2 : tie.Need-returns-2
-unfolding held
+unfolding heldIn
 returns-2 c =
     let self = c .before .before .before .before .before .args .self in
     cc (timeout-sends self (omega arith))

@@ -1,0 +1,27 @@
+-- `blocks::sized` meets its contract.
+-- Assumes nothing.
+use Prim.Native.Nat.{_≤_}
+use native.Mathlib.Omega.{arith}
+use borrow.Author.Needs.{needs}
+use Rattle.blocks.specs.declared.Store.{Store}
+use Rattle.blocks.specs.declared.Store.the-variants.{Priority, Ordinary}
+use Rattle.blocks.specs.Stores.{capacityOf, storeSized}
+use Rattle.blocks.proofs.sized.Statement.{statement}
+use Rattle.blocks.proofs.sized.Tie as tie
+
+few : (s : Store) → capacityOf s ≤ 128
+few Priority = omega arith
+few Ordinary = omega arith
+
+capacity-requires : tie.Need-capacity-requires
+capacity-requires c κs = search needs
+
+mul-result : tie.Need-mul-result
+mul-result c = search (needs, few (c .before .before .args .which))
+
+returns : tie.Need-returns
+unfolding storeSized
+returns c = cc
+
+pub sized-spec : {M : Type 1} → statement M
+sized-spec = tie.close (tie.spec capacity-requires mul-result returns)
