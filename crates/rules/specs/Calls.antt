@@ -1,192 +1,148 @@
--- One definition for each call, over what it is lent: what it says, the next state, each lent buffer at exit.
+-- Each call is its rows and its effect, over what it is lent. What is given back by value counts as lent: it comes as nothing.
 -- Assumes nothing.
 use Prim.Native.Nat.{ℕ}
-use mathlib.Core.Bool.{Bool, true, false, cond}
 use mathlib.Core.List.{List, [], _∷_, _++_}
 use lib.ListN.{length, replicate}
 use lib.Seq.{sets}
+use Rattle.rows.specs.Rows.{Row, Said, refused, gave, Out as Left, out, ran}
 use Rattle.blocks.specs.declared.Store.{Store}
-use Rattle.blocks.specs.Stores.{capacityOf, storeOf, oldestOf, putRing, putStore}
+use Rattle.blocks.specs.Stores.{capacityOf, oldestOf, putRing, putStore}
 use Rattle.packets.specs.declared.Parsed.{Parsed}
 use Rattle.packets.specs.declared.Parsed.the-variants.{Nothing, Error, Acknowledgement, Asked}
-use Rattle.packets.specs.Commands.{rowOf}
-use Rattle.packets.specs.Reading.{readOf}
-use Rattle.packets.specs.Answers.{errorAnswer, doneAnswer, statusAnswer, valueAnswer, dataAnswer}
+use Rattle.packets.specs.Commands.{commandRow}
+use Rattle.packets.specs.Reading.{packetRead}
+use Rattle.packets.specs.Answers.{answerOf, errorAnswer, statusBody, valueBody}
+use Rattle.tables.specs.declared.Words.{Words}
 use Rattle.tables.specs.Tables.{Three, starts}
-use Rattle.tables.specs.declared.Answered.{Answered}
-use Rattle.tables.specs.Port.{Tabled, tabled, commandOf, dataInOf, dataOutOf, statusOf}
+use Rattle.tables.specs.Port.{Desk}
+use Rattle.pipe.specs.declared.Pipe.{Pipe}
 use Rattle.pipe.specs.declared.Sent.{Sent}
-use Rattle.pipe.specs.declared.Piped.{Piped}
-use Rattle.pipe.specs.Input.{packet, byteOf, timeoutOf}
+use Rattle.pipe.specs.Input.{sentPacket}
 use Rattle.frames.specs.declared.Frames.{Frames}
 use Rattle.frames.specs.Layout.{framesOf}
 use Rattle.rules.specs.declared.Pod.{Pod}
-use Rattle.rules.specs.declared.Reply.{Reply}
-use Rattle.rules.specs.declared.Reply.the-variants.{Success, Failure, Report, Value, Block}
-use Rattle.rules.specs.declared.Obeyed.{Obeyed}
-use Rattle.rules.specs.State.{withWords, withRing, withPipe, ringOf, freshPod}
-use Rattle.rules.specs.Obey.{shut, obeyOf, acknowledgedOf, reportOf}
-use Rattle.rules.specs.Refusals.{Said, refused, done, bytes, word, Row, gated, roomRow, allRow, storeRow, tablesRow, stateRow, blockRow, setRow, overRow, asleepRow, fullRow}
+use Rattle.rules.specs.State.{Lent, storeIn, withWords, withRing, withPipe, ringOf, freshPod}
+use Rattle.rules.specs.Obey.{Meant, success, report, value, block, shut, obeyOf, acknowledgedOf, reportOf}
+use Rattle.rules.specs.Refusals.{Given, done, bytes, Out, roomRow, allRow, storeRow, tablesRow, stateRow, blockRow, setRow, overRow, asleepRow, fullRow}
+use Rattle.rules.specs.Families.{WordCall, wordOf, wordLent, PipeCall, pipeOf}
 
--- what is said, with the next state
-pub record Outcome : Type 0 where
-  pub said : Said
-  pub pod : Pod
+-- ---- power on: lent the tables
 
-abbrev pub outcome : Said → Pod → Outcome
-outcome s p = record { said = s; pod = p }
+abbrev pub powerRows : Three → List Row
+powerRows t = tablesRow t ∷ []
 
--- ---- power on
+-- "Fresh from power"; refused, it hands the pod back as it came
+unfoldable pub powerCall : Three → Pod → Out Three
+powerCall t p = ran (powerRows t) p t (out done freshPod starts)
 
-pub record Powered : Type 0 where
-  pub said : Said
-  pub pod : Pod
-  pub tables : Three
+-- ---- a packet: lent the answer room, and all else but the words of a load
 
--- "Fresh from power"; refused, it leaves the tables as they came
-unfoldable pub powerCall : Three → Powered
-powerCall t =
-    gated (tablesRow t ∷ [])
-    (λ n. record { said = refused n; pod = freshPod; tables = t })
-    (record { said = done; pod = freshPod; tables = starts })
+pub record Roomed : Type 0 where
+  pub room : List ℕ
+  pub lent : Lent
 
--- ---- a packet: read, obeyed, answered
+abbrev pub roomed : List ℕ → Lent → Roomed
+roomed r l = record { room = r; lent = l }
 
--- what a packet brings: no answer, or a first byte with a reply; the next state; whether the tables go to their starts
+-- what a packet is answered: nothing, or a first byte with an error number or what is meant
 pub data Spoken : Type 0 where
   silent : Spoken
-  says : ℕ → Reply → Spoken
+  says : ℕ → Said Meant → Spoken
 
-pub record Heard : Type 0 where
-  pub spoken : Spoken
-  pub pod : Pod
-  pub restart : Bool
-
-abbrev pub heard : Spoken → Pod → Heard
-heard s p = record { spoken = s; pod = p; restart = false }
-
-abbrev pub heardBy : ℕ → Obeyed → Heard
-heardBy first o = record { spoken = says first (o .reply); pod = o .pod; restart = o .restart }
+-- a command's reply under its code
+abbrev pub replied : ℕ → Left (Said Meant) Pod Lent → Left Spoken Pod Lent
+replied first o = out (says first (o .said)) (o .pod) (o .lent)
 
 -- "Empty packet: answer of length 0, no change"; "Every other non-empty packet closes an open exchange first"
-unfoldable pub heardOf : Parsed → Pod → Heard
-heardOf Nothing p = heard silent p
-heardOf (Error first n) p = heard (says first (Failure n)) (shut p)
-heardOf (Acknowledgement first one) p = heard silent (acknowledgedOf first one p)
-heardOf (Asked c) p = heardBy (rowOf c .code) (obeyOf c (shut p))
+unfoldable pub packetHeard : Parsed → Lent → Pod → Left Spoken Pod Lent
+packetHeard Nothing l p = out silent p l
+packetHeard (Error first n) l p = out (says first (refused n)) (shut p) l
+packetHeard (Acknowledgement first one) l p = out silent (acknowledgedOf first one p) l
+packetHeard (Asked c) l p = replied (commandRow c .code) (obeyOf c l (shut p))
 
--- the bytes of a reply; "the body of a data answer is shown as a part of whichever store it came from"
-unfoldable pub replyBytes : ℕ → Reply → Pod → List ℕ → List ℕ → List ℕ
-replyBytes first Success p priority ordinary = doneAnswer first
-replyBytes first (Failure n) p priority ordinary = errorAnswer first n
-replyBytes first Report p priority ordinary = statusAnswer first (reportOf p)
-replyBytes first (Value id v) p priority ordinary = valueAnswer first id v
-replyBytes first (Block s) p priority ordinary =
-    dataAnswer first (oldestOf (capacityOf s) (ringOf s p) (storeOf s priority ordinary))
+-- the body of what is meant: "first byte, 0x01, 0x7E, CRC; of a type 2 command: first byte, 0x01, the body, CRC"; "the body of a
+-- data answer is shown as a part of whichever store it came from"
+unfoldable pub meantBody : Meant → Pod → Lent → List ℕ
+meantBody success p l = 0x7E ∷ []
+meantBody report p l = statusBody (reportOf p)
+meantBody (value id v) p l = valueBody id v
+meantBody (block s) p l = oldestOf (capacityOf s) (ringOf s p) (storeIn s l)
 
-unfoldable pub spokenBytes : Spoken → Pod → List ℕ → List ℕ → List ℕ
-spokenBytes silent p priority ordinary = []
-spokenBytes (says first r) p priority ordinary = replyBytes first r p priority ordinary
+unfoldable pub replyBytes : ℕ → Said Meant → Pod → Lent → List ℕ
+replyBytes first (refused n) p l = errorAnswer first n
+replyBytes first (gave m) p l = answerOf first 0x01 (meantBody m p l)
 
-pub record Packeted : Type 0 where
-  pub said : Said
-  pub pod : Pod
-  pub room : List ℕ
-  pub tables : Three
+unfoldable pub spokenBytes : Spoken → Pod → Lent → List ℕ
+spokenBytes silent p l = []
+spokenBytes (says first r) p l = replyBytes first r p l
 
 -- "An answer is written from the start of the answer room; the rest of the room is kept."
-unfoldable pub answeredWith : List ℕ → Heard → List ℕ → Three → Packeted
-answeredWith answer h room t =
-    record { said = bytes (length answer); pod = h .pod; room = sets room 0 answer; tables = cond (h .restart) starts t }
+abbrev pub written : List ℕ → List ℕ → Pod → Lent → Left Given Pod Roomed
+written answer room p l = out (bytes (length answer)) p (roomed (sets room 0 answer) l)
 
-unfoldable pub answeredBy : Heard → List ℕ → List ℕ → List ℕ → Three → Packeted
-answeredBy h room priority ordinary t = answeredWith (spokenBytes (h .spoken) (h .pod) priority ordinary) h room t
+unfoldable pub answered : Left Spoken Pod Lent → List ℕ → Left Given Pod Roomed
+answered o room = written (spokenBytes (o .said) (o .pod) (o .lent)) room (o .pod) (o .lent)
 
-unfoldable pub packetCall : List ℕ → List ℕ → List ℕ → List ℕ → Three → Pod → Packeted
-packetCall packet room priority ordinary t p =
-    gated (roomRow room ∷ allRow priority ordinary t ∷ stateRow p ∷ [])
-    (λ n. record { said = refused n; pod = p; room = room; tables = t })
-    (answeredBy (heardOf (readOf packet) p) room priority ordinary t)
+abbrev pub packetRows : Roomed → Pod → List Row
+packetRows d p = roomRow (d .room) ∷ allRow (d .lent) ∷ stateRow p ∷ []
+
+unfoldable pub packetCall : List ℕ → Roomed → Pod → Out Roomed
+packetCall b d p = ran (packetRows d p) p d (answered (packetHeard (packetRead b) (d .lent) p) (d .room))
+
+-- ---- the deadline: lent nothing
+
+abbrev pub deadlineRows : Pod → List Row
+deadlineRows p = stateRow p ∷ []
 
 -- "So does the deadline call (2 ms passed)": it closes an open exchange, keeping the block
-unfoldable pub deadlineCall : Pod → Outcome
-deadlineCall p = gated (stateRow p ∷ []) (λ n. outcome (refused n) p) (outcome done (shut p))
+unfoldable pub deadlineCall : Pod → Out (Unit {0})
+deadlineCall p = ran (deadlineRows p) p tt (out done (shut p) tt)
 
--- ---- a block from the camera
+-- ---- a block from the camera: lent its store
 
-pub record Put : Type 0 where
-  pub said : Said
-  pub pod : Pod
-  pub store : List ℕ
+abbrev pub putRows : Store → List ℕ → List ℕ → Pod → List Row
+putRows s b store p = storeRow s store ∷ stateRow p ∷ blockRow b ∷ asleepRow p ∷ fullRow s p ∷ []
 
 -- "The camera's put adds a block behind the others"
-unfoldable pub putCall : Store → List ℕ → List ℕ → Pod → Put
-putCall s block store p =
-    gated (storeRow s store ∷ stateRow p ∷ blockRow block ∷ asleepRow p ∷ fullRow s p ∷ [])
-    (λ n. record { said = refused n; pod = p; store = store })
-    (record { said = done; pod = withRing s (putRing (ringOf s p)) p; store = putStore (capacityOf s) (ringOf s p) store block })
+abbrev pub shelved : Store → List ℕ → List ℕ → Pod → Left Given Pod (List ℕ)
+shelved s b store p = out done (withRing s (putRing (ringOf s p)) p) (putStore (capacityOf s) (ringOf s p) store b)
 
--- ---- table words
+unfoldable pub putCall : Store → List ℕ → List ℕ → Pod → Out (List ℕ)
+putCall s b store p = ran (putRows s b store p) p store (shelved s b store p)
 
-pub record Worded : Type 0 where
-  pub said : Said
-  pub pod : Pod
-  pub tables : Three
+-- ---- a table word: lent the tables, the data word in also the words of a load
 
-abbrev pub worded : Tabled → Pod → Worded
-worded d p = record { said = done; pod = withWords (d .words) p; tables = d .tables }
+abbrev pub wordRows : WordCall → Three → Pod → List Row
+wordRows c t p = wordLent c t ++ (stateRow p ∷ [])
 
-abbrev pub unworded : ℕ → Three → Pod → Worded
-unworded n t p = record { said = refused n; pod = p; tables = t }
+abbrev pub worded : Left Given Words Desk → Pod → Left Given Pod Desk
+worded o p = out (o .said) (withWords (o .pod) p) (o .lent)
 
-unfoldable pub commandCall : ℕ → Three → Pod → Worded
-commandCall w t p =
-    gated (tablesRow t ∷ stateRow p ∷ []) (λ n. unworded n t p) (worded (commandOf (p .initialised) w (tabled (p .words) t)) p)
+unfoldable pub wordCall : WordCall → Desk → Pod → Out Desk
+wordCall c d p = ran (wordRows c (d .tables) p) p d (worded (wordOf c (p .initialised) (p .words) d) p)
 
-unfoldable pub dataInCall : ℕ → Three → Pod → Worded
-dataInCall x t p = gated (tablesRow t ∷ stateRow p ∷ []) (λ n. unworded n t p) (worded (dataInOf x (tabled (p .words) t)) p)
+-- ---- the byte pipe: what is sent comes as nothing
 
-abbrev pub given : Answered → Pod → Outcome
-given a p = outcome (word (a .word)) (withWords (a .words) p)
+abbrev pub pipeRows : PipeCall → Pod → List Row
+pipeRows c p = stateRow p ∷ asleepRow p ∷ []
 
-unfoldable pub dataOutCall : Three → Pod → Outcome
-dataOutCall t p = gated (tablesRow t ∷ stateRow p ∷ []) (λ n. outcome (refused n) p) (given (dataOutOf (tabled (p .words) t)) p)
+abbrev pub passed : Left Given Pipe Sent → Pod → Left Given Pod Sent
+passed o p = out (o .said) (withPipe (o .pod) p) (o .lent)
 
-unfoldable pub statusCall : Pod → Outcome
-statusCall p = gated (stateRow p ∷ []) (λ n. outcome (refused n) p) (given (statusOf (p .words)) p)
+unfoldable pub pipeCall : PipeCall → Pod → Out Sent
+pipeCall c p = ran (pipeRows c p) p (sentPacket []) (passed (pipeOf c (p .pipe)) p)
 
--- ---- samples
+-- ---- samples: the frames come as zeros
 
-pub record Sampled : Type 0 where
-  pub said : Said
-  pub frames : Frames
-
--- no frames: all zeros
 abbrev pub noFrames : Frames
-noFrames = record { three = replicate 8 0; fortyseven = replicate 8 0 }
+noFrames = record { an03 = replicate 8 0; an47 = replicate 8 0 }
+
+abbrev pub samplesRows : ℕ → List ℕ → Pod → List Row
+samplesRows check xs p = stateRow p ∷ setRow xs ∷ overRow check xs ∷ []
 
 -- a sample set with a self-check number gives the two frames, and changes nothing
-unfoldable pub samplesCall : ℕ → List ℕ → Pod → Sampled
-samplesCall check xs p =
-    gated (stateRow p ∷ setRow xs ∷ overRow check xs ∷ [])
-    (λ n. record { said = refused n; frames = noFrames })
-    (record { said = done; frames = framesOf 16 xs (p .pipe) (p .initialised) check })
+abbrev pub framed : ℕ → List ℕ → Pod → Left Given Pod Frames
+framed check xs p = out done p (framesOf 16 xs (p .pipe) (p .initialised) check)
 
--- ---- the byte pipe
-
-pub record Piping : Type 0 where
-  pub said : Said
-  pub sent : Sent
-  pub pod : Pod
-
-abbrev pub passed : Piped → Pod → Piping
-passed q p = record { said = done; sent = q .sent; pod = withPipe (q .input) p }
-
-abbrev pub unpassed : ℕ → Pod → Piping
-unpassed n p = record { said = refused n; sent = packet []; pod = p }
-
-unfoldable pub byteCall : ℕ → Pod → Piping
-byteCall b p = gated (stateRow p ∷ asleepRow p ∷ []) (λ n. unpassed n p) (passed (byteOf (p .pipe) b) p)
-
-unfoldable pub timeoutCall : Pod → Piping
-timeoutCall p = gated (stateRow p ∷ asleepRow p ∷ []) (λ n. unpassed n p) (passed (timeoutOf (p .pipe)) p)
+unfoldable pub samplesCall : ℕ → List ℕ → Pod → Out Frames
+samplesCall check xs p = ran (samplesRows check xs p) p noFrames (framed check xs p)

@@ -1,11 +1,12 @@
 -- What a list of calls and answers alone says of the pod: nothing here looks at its state.
 -- Assumes nothing.
-use Prim.Native.Nat.{ℕ, _+_}
-use mathlib.Core.Bool.{Bool, true, false, not, _&&_, cond}
+use Prim.Native.Nat.{ℕ, _+_, _-_}
+use mathlib.Core.Bool.{Bool, true, false, not, _&&_, _||_, cond}
 use mathlib.Core.List.{List, [], _∷_, _++_}
 use lib.Dec.{ltb, eqb}
 use lib.IntN.{ℤ}
 use lib.ListN.{length, drop, getD}
+use Rattle.rows.specs.Rows.{Said, refused, gave}
 use Rattle.blocks.specs.declared.Store.{Store}
 use Rattle.blocks.specs.declared.Store.the-variants.{Priority, Ordinary}
 use Rattle.packets.specs.declared.Fields.{Fields}
@@ -13,101 +14,126 @@ use Rattle.packets.specs.declared.Command.{Command}
 use Rattle.packets.specs.declared.Command.the-variants as command
 use Rattle.packets.specs.declared.Parsed.{Parsed}
 use Rattle.packets.specs.declared.Parsed.the-variants.{Nothing, Error, Acknowledgement, Asked}
-use Rattle.packets.specs.Commands.{rowOf as commandRow}
-use Rattle.packets.specs.Reading.{readOf}
-use Rattle.params.specs.Rows.{rowOf}
+use Rattle.packets.specs.Commands.{commandRow}
+use Rattle.packets.specs.Reading.{packetRead}
+use Rattle.params.specs.Rows.{paramRow}
 use Rattle.rules.specs.declared.Exchange.{Exchange}
 use Rattle.rules.specs.declared.Exchange.the-variants.{Closed, Status, Read, Receive}
-use Rattle.rules.specs.Refusals.{Said, refused, done, bytes, word}
-use Rattle.rules.specs.World.{World, Call, power, packet, deadline, put, command, dataIn, dataOut, status, samples, byte, timeout, Told, isRefused, step}
+use Rattle.rules.specs.State.{freshFields, remainingOf, withRemaining}
+use Rattle.rules.specs.Obey.{receives}
+use Rattle.rules.specs.Refusals.{Given, done, bytes, reads}
+use Rattle.rules.specs.Families.{WordCall, PipeCall, byte, timeout}
+use Rattle.rules.specs.World.{World, Call, power, packet, deadline, put, word, pipe, samples, Told, step, next}
 
--- a call with what it told
-pub record Entry : Type 0 where
-  pub call : Call
-  pub told : Told
+-- ---- a call with what it told, read as what happened
 
--- the history of some calls
-unfoldable pub historyOf : World → List Call → List Entry
-historyOf w [] = []
-historyOf w (c ∷ cs) = record { call = c; told = step w c .told } ∷ historyOf (step w c .world) cs
+pub data Event : Type 0 where
+  -- refused, or of no concern below
+  nothing : Event
+  -- all is as from power; awake, if by Initialise; with these fields
+  begins : Bool → Fields → Event
+  sleeps : Event
+  updates : Fields → Event
+  writes : ℕ → ℤ → Event
+  -- a type 2 command answered without error
+  opens : Exchange → Event
+  -- a packet answered with an error, or the deadline
+  closes : Event
+  -- an acknowledgement: its first byte, and whether it is the 0x01 form
+  acknowledges : ℕ → Bool → Event
+  puts : Store → List ℕ → Event
+  words : WordCall → Event
+  -- a pipe call, and the bytes that it sent
+  pipes : PipeCall → List ℕ → Event
+
+-- a command answered without error
+abbrev pub obeyedAs : Command → Event
+obeyedAs (command.Initialise f) = begins true f
+obeyedAs command.Status = opens Status
+obeyedAs (command.Update f) = updates f
+obeyedAs (command.Write id v) = writes id v
+obeyedAs (command.Read id) = opens Read
+obeyedAs command.Priority = opens (Receive Priority)
+obeyedAs command.Data = opens (Receive Ordinary)
+obeyedAs command.Shutdown = sleeps
+
+-- a packet as it is read; a Bool says whether it was answered without error
+abbrev pub packetAs : Parsed → Bool → Event
+packetAs Nothing ok = nothing
+packetAs (Error first n) ok = closes
+packetAs (Acknowledgement first one) ok = acknowledges first one
+packetAs (Asked c) ok = cond ok (obeyedAs c) closes
 
 -- a packet was answered, and the second byte of its answer is k
-abbrev pub secondIs : ℕ → Said → List ℕ → Bool
+abbrev pub secondIs : ℕ → Said Given → List ℕ → Bool
 secondIs k (refused n) room = false
-secondIs k done room = false
-secondIs k (bytes n) room = ltb 0 n && eqb (getD room 1 0) k
-secondIs k (word x) room = false
+secondIs k (gave done) room = false
+secondIs k (gave (bytes n)) room = ltb 0 n && eqb (getD room 1 0) k
+secondIs k (gave (reads x)) room = false
 
--- it was answered without error
+-- it was answered without error: "first byte, 0x01"
 unfoldable pub succeeded : Told → Bool
 succeeded t = secondIs 0x01 (t .said) (t .bytes)
 
--- what power on brings, what a packet brings as it is read, and what any other call does
-abbrev pub byCall {ℓ} : {A : Type ℓ} → A → (Parsed → A) → A → Call → A
-byCall p f z power = p
-byCall p f z (packet b room) = f (readOf b)
-byCall p f z deadline = z
-byCall p f z (put s b) = z
-byCall p f z (command y) = z
-byCall p f z (dataIn y) = z
-byCall p f z dataOut = z
-byCall p f z status = z
-byCall p f z (samples k xs) = z
-byCall p f z (byte b) = z
-byCall p f z timeout = z
+-- "An error answer has 5 bytes: the packet's first byte, 0x09, the error, CRC"
+unfoldable pub errored : Told → Bool
+errored t = secondIs 0x09 (t .said) (t .bytes)
 
--- what each command that changes fields or parameters, or that wakes the pod or puts it to sleep, brings; and any other packet
-pub record Brings (A : Type 0) : Type 0 where
-  pub initialise : Fields → A
-  pub update : Fields → A
-  pub write : ℕ → ℤ → A
-  pub shutdown : A
-  pub other : A
+abbrev pub givenAs : Call → Told → Event
+givenAs power t = begins false freshFields
+givenAs (packet b room) t = packetAs (packetRead b) (succeeded t)
+givenAs deadline t = closes
+givenAs (put s b) t = puts s b
+givenAs (word c) t = words c
+givenAs (pipe c) t = pipes c (t .bytes)
+givenAs (samples k xs) t = nothing
 
-abbrev pub byPacket : {A : Type 0} → Brings A → Parsed → A
-byPacket x Nothing = x .other
-byPacket x (Error first n) = x .other
-byPacket x (Acknowledgement first one) = x .other
-byPacket x (Asked (command.Initialise f)) = x .initialise f
-byPacket x (Asked command.Status) = x .other
-byPacket x (Asked (command.Update f)) = x .update f
-byPacket x (Asked (command.Write id v)) = x .write id v
-byPacket x (Asked (command.Read id)) = x .other
-byPacket x (Asked command.Priority) = x .other
-byPacket x (Asked command.Data) = x .other
-byPacket x (Asked command.Shutdown) = x .shutdown
+abbrev pub saidAs : Said Given → Call → Told → Event
+saidAs (refused n) c t = nothing
+saidAs (gave g) c t = givenAs c t
 
--- "A type 2 answer without error opens an exchange"
-unfoldable pub opens : Command → Exchange
-opens (command.Initialise f) = Closed
-opens command.Status = Status
-opens (command.Update f) = Closed
-opens (command.Write id v) = Closed
-opens (command.Read id) = Read
-opens command.Priority = Receive Priority
-opens command.Data = Receive Ordinary
-opens command.Shutdown = Closed
+unfoldable pub eventOf : Call → Told → Event
+eventOf c t = saidAs (t .said) c t
 
--- the exchange that is open after a packet
-unfoldable pub exchangeBy : Parsed → Bool → Exchange → Exchange
-exchangeBy Nothing ok x = x
-exchangeBy (Error first n) ok x = Closed
-exchangeBy (Acknowledgement first one) ok x = Closed
-exchangeBy (Asked c) ok x = cond ok (opens c) Closed
+unfoldable pub events : World → List Call → List Event
+events w [] = []
+events w (c ∷ cs) = eventOf c (step w c .told) ∷ events (next w c) cs
 
--- and after any call
-unfoldable pub exchangeAfter : Call → Told → Exchange → Exchange
-exchangeAfter power t x = cond (isRefused (t .said)) x Closed
-exchangeAfter (packet b room) t x = cond (isRefused (t .said)) x (exchangeBy (readOf b) (succeeded t) x)
-exchangeAfter deadline t x = cond (isRefused (t .said)) x Closed
-exchangeAfter (put s b) t x = x
-exchangeAfter (command y) t x = x
-exchangeAfter (dataIn y) t x = x
-exchangeAfter dataOut t x = x
-exchangeAfter status t x = x
-exchangeAfter (samples k xs) t x = x
-exchangeAfter (byte b) t x = x
-exchangeAfter timeout t x = x
+-- every function of a history is a fold
+unfoldable pub fold : {A : Type 0} → (Event → A → A) → A → List Event → A
+fold f a [] = a
+fold f a (e ∷ es) = fold f (f e a) es
+
+-- ---- awake: from Initialise to Shutdown
+
+unfoldable pub awakeBy : Event → Bool → Bool
+awakeBy nothing b = b
+awakeBy (begins a f) b = a
+awakeBy sleeps b = false
+awakeBy (updates f) b = b
+awakeBy (writes id v) b = b
+awakeBy (opens x) b = b
+awakeBy closes b = b
+awakeBy (acknowledges first one) b = b
+awakeBy (puts s q) b = b
+awakeBy (words c) b = b
+awakeBy (pipes c l) b = b
+
+-- ---- the exchange that is open: "A type 2 answer without error opens an exchange"; "Every other non-empty packet closes an open
+-- exchange first"; "So does the deadline call"
+
+unfoldable pub exchangeBy : Event → Exchange → Exchange
+exchangeBy nothing x = x
+exchangeBy (begins a f) x = Closed
+exchangeBy sleeps x = Closed
+exchangeBy (updates f) x = Closed
+exchangeBy (writes id v) x = Closed
+exchangeBy (opens y) x = y
+exchangeBy closes x = Closed
+exchangeBy (acknowledges first one) x = Closed
+exchangeBy (puts s b) x = x
+exchangeBy (words c) x = x
+exchangeBy (pipes c l) x = x
 
 abbrev pub sameStore : Store → Store → Bool
 sameStore Priority Priority = true
@@ -122,94 +148,135 @@ isReceive s Status = false
 isReceive s Read = false
 isReceive s (Receive r) = sameStore s r
 
--- whether a packet is the command of a code
-abbrev pub asksFor : ℕ → Parsed → Bool
-asksFor k Nothing = false
-asksFor k (Error first n) = false
-asksFor k (Acknowledgement first one) = false
-asksFor k (Asked c) = eqb (commandRow c .code) k
+-- with that exchange open, a block of the store is acknowledged: the 0x01 form, with the code of its receive
+unfoldable pub acknowledged : Store → ℕ → Bool → Exchange → Bool
+acknowledged s first one x = isReceive s x && (one && eqb first (commandRow (receives s) .code))
 
--- a call begins anew: power on, or an accepted Initialise
-unfoldable pub begins : Call → Told → Bool
-begins c t = byCall (not (isRefused (t .said))) (λ r. asksFor 0x90 r && succeeded t) false c
+-- ---- the blocks that wait: "put adds a block behind the others"; acknowledged, "the oldest block of that store is dropped"
 
--- the command that receives a block of a store, and its code
-abbrev pub receives : Store → Command
-receives Priority = command.Priority
-receives Ordinary = command.Data
-
-abbrev pub receiveCode : Store → ℕ
-receiveCode Priority = 0x95
-receiveCode Ordinary = 0x96
-
--- a packet, with that exchange open, acknowledges a block of the store: the 0x01 form, with the code of its receive
-unfoldable pub acknowledged : Store → Parsed → Exchange → Bool
-acknowledged s Nothing x = false
-acknowledged s (Error first n) x = false
-acknowledged s (Acknowledgement first one) x = isReceive s x && (one && eqb first (receiveCode s))
-acknowledged s (Asked c) x = false
-
--- the blocks that wait after a call, those before it being q: one behind the others, or the oldest gone
-unfoldable pub blocksBy : Store → Call → Told → Exchange → List (List ℕ) → List (List ℕ)
-blocksBy s power t x q = q
-blocksBy s (packet b room) t x q = cond (not (isRefused (t .said)) && acknowledged s (readOf b) x) (drop 1 q) q
-blocksBy s deadline t x q = q
-blocksBy s (put r b) t x q = cond (not (isRefused (t .said)) && sameStore s r) (q ++ (b ∷ [])) q
-blocksBy s (command y) t x q = q
-blocksBy s (dataIn y) t x q = q
-blocksBy s dataOut t x q = q
-blocksBy s status t x q = q
-blocksBy s (samples k xs) t x q = q
-blocksBy s (byte b) t x q = q
-blocksBy s timeout t x q = q
-
--- the exchange and the waiting blocks of a store, by the history
 pub record Waiting : Type 0 where
   pub exchange : Exchange
   pub blocks : List (List ℕ)
 
-unfoldable pub waitingAfter : Store → Entry → Waiting → Waiting
-waitingAfter s e x =
-    record {
-      exchange = exchangeAfter (e .call) (e .told) (x .exchange);
-      blocks = cond (begins (e .call) (e .told)) [] (blocksBy s (e .call) (e .told) (x .exchange) (x .blocks));
-    }
-
--- by all of a history: the blocks put since Initialise less those acknowledged
-unfoldable pub waitingFrom : Store → Waiting → List Entry → Waiting
-waitingFrom s x [] = x
-waitingFrom s x (e ∷ es) = waitingFrom s (waitingAfter s e x) es
-
 abbrev pub nothingWaits : Waiting
 nothingWaits = record { exchange = Closed; blocks = [] }
 
--- 1 for a timeout that sent something
-unfoldable pub shortBy : Call → Told → ℕ
-shortBy power t = 0
-shortBy (packet b room) t = 0
-shortBy deadline t = 0
-shortBy (put s b) t = 0
-shortBy (command y) t = 0
-shortBy (dataIn y) t = 0
-shortBy dataOut t = 0
-shortBy status t = 0
-shortBy (samples k xs) t = 0
-shortBy (byte b) t = 0
-shortBy timeout t = cond (eqb (length (t .bytes)) 0) 0 1
+unfoldable pub blocksBy : Store → Event → Exchange → List (List ℕ) → List (List ℕ)
+blocksBy s nothing x q = q
+blocksBy s (begins a f) x q = []
+blocksBy s sleeps x q = q
+blocksBy s (updates f) x q = q
+blocksBy s (writes id v) x q = q
+blocksBy s (opens y) x q = q
+blocksBy s closes x q = q
+blocksBy s (acknowledges first one) x q = cond (acknowledged s first one x) (drop 1 q) q
+blocksBy s (puts r b) x q = cond (sameStore s r) (q ++ (b ∷ [])) q
+blocksBy s (words c) x q = q
+blocksBy s (pipes c l) x q = q
 
--- "timeouts since Initialise" that sent something
-unfoldable pub timeoutsFrom : ℕ → List Entry → ℕ
-timeoutsFrom n [] = n
-timeoutsFrom n (e ∷ es) = timeoutsFrom (cond (begins (e .call) (e .told)) 0 (n + shortBy (e .call) (e .told))) es
+abbrev pub waitingBy : Store → Event → Waiting → Waiting
+waitingBy s e x = record { exchange = exchangeBy e (x .exchange); blocks = blocksBy s e (x .exchange) (x .blocks) }
 
--- the value that a parameter write carries, if it is one of that id
-abbrev pub writtenBy : ℕ → Parsed → ℤ → ℤ
-writtenBy id r v = byPacket (record { initialise = λ f. v; update = λ f. v; write = λ k u. cond (eqb k id) u v; shutdown = v; other = v }) r
+-- ---- the fields: of the last Initialise or Update, each remaining less the blocks of its store acknowledged since
 
-unfoldable pub valueBy : ℕ → Call → Told → ℤ → ℤ
-valueBy id c t v = byCall v (λ r. cond (succeeded t) (writtenBy id r v) v) v c
+pub record Fielded : Type 0 where
+  pub exchange : Exchange
+  pub fields : Fields
 
--- what was last written to a parameter since Initialise, else its start
-unfoldable pub valueFrom : ℕ → ℤ → List Entry → ℤ
-valueFrom id v [] = v
-valueFrom id v (e ∷ es) = valueFrom id (cond (begins (e .call) (e .told)) (rowOf id .start) (valueBy id (e .call) (e .told) v)) es
+abbrev pub freshFielded : Fielded
+freshFielded = record { exchange = Closed; fields = freshFields }
+
+-- "the oldest block of that store is dropped and its remaining falls by 1"
+abbrev pub lessBy : Store → ℕ → Bool → Exchange → Fields → Fields
+lessBy s first one x f = cond (acknowledged s first one x) (withRemaining s (remainingOf s f - 1) f) f
+
+unfoldable pub fieldsBy : Event → Exchange → Fields → Fields
+fieldsBy nothing x f = f
+fieldsBy (begins a g) x f = g
+fieldsBy sleeps x f = f
+fieldsBy (updates g) x f = g
+fieldsBy (writes id v) x f = f
+fieldsBy (opens y) x f = f
+fieldsBy closes x f = f
+fieldsBy (acknowledges first one) x f = lessBy Priority first one x (lessBy Ordinary first one x f)
+fieldsBy (puts s b) x f = f
+fieldsBy (words c) x f = f
+fieldsBy (pipes c l) x f = f
+
+abbrev pub fieldedBy : Event → Fielded → Fielded
+fieldedBy e x = record { exchange = exchangeBy e (x .exchange); fields = fieldsBy e (x .exchange) (x .fields) }
+
+-- ---- a parameter: what was last written since Initialise, else its start; and whether it was written since
+
+unfoldable pub valueBy : ℕ → Event → ℤ → ℤ
+valueBy id nothing v = v
+valueBy id (begins a f) v = paramRow id .start
+valueBy id sleeps v = v
+valueBy id (updates f) v = v
+valueBy id (writes k u) v = cond (eqb k id) u v
+valueBy id (opens x) v = v
+valueBy id closes v = v
+valueBy id (acknowledges first one) v = v
+valueBy id (puts s b) v = v
+valueBy id (words c) v = v
+valueBy id (pipes c l) v = v
+
+unfoldable pub markBy : ℕ → Event → Bool → Bool
+markBy id nothing m = m
+markBy id (begins a f) m = false
+markBy id sleeps m = m
+markBy id (updates f) m = m
+markBy id (writes k u) m = eqb k id || m
+markBy id (opens x) m = m
+markBy id closes m = m
+markBy id (acknowledges first one) m = m
+markBy id (puts s b) m = m
+markBy id (words c) m = m
+markBy id (pipes c l) m = m
+
+-- ---- the pipe, since the beginning: by the calls' own inputs, and by the bytes that they gave
+
+-- bytes accepted, those of them gathered, timeouts that had bytes to send
+pub record Flow : Type 0 where
+  pub accepted : List ℕ
+  pub gathered : List ℕ
+  pub timeouts : ℕ
+
+abbrev pub flow : List ℕ → List ℕ → ℕ → Flow
+flow a g n = record { accepted = a; gathered = g; timeouts = n }
+
+abbrev pub noFlow : Flow
+noFlow = flow [] [] 0
+
+-- "Pipe bytes gather; the eighth sends all eight."; "The pipe timeout sends a short packet and counts one ..; with none gathered it
+-- does nothing."
+unfoldable pub flowAfter : PipeCall → Flow → Flow
+flowAfter (byte b) f = flow (f .accepted ++ (b ∷ [])) (cond (ltb (length (f .gathered)) 7) (f .gathered ++ (b ∷ [])) []) (f .timeouts)
+flowAfter timeout f = flow (f .accepted) [] (cond (eqb (length (f .gathered)) 0) (f .timeouts) (f .timeouts + 1))
+
+unfoldable pub flowBy : Event → Flow → Flow
+flowBy nothing f = f
+flowBy (begins a g) f = noFlow
+flowBy sleeps f = f
+flowBy (updates g) f = f
+flowBy (writes id v) f = f
+flowBy (opens x) f = f
+flowBy closes f = f
+flowBy (acknowledges first one) f = f
+flowBy (puts s b) f = f
+flowBy (words c) f = f
+flowBy (pipes c l) f = flowAfter c f
+
+-- the bytes sent
+unfoldable pub sentBy : Event → List ℕ → List ℕ
+sentBy nothing s = s
+sentBy (begins a f) s = []
+sentBy sleeps s = s
+sentBy (updates f) s = s
+sentBy (writes id v) s = s
+sentBy (opens x) s = s
+sentBy closes s = s
+sentBy (acknowledges first one) s = s
+sentBy (puts r b) s = s
+sentBy (words c) s = s
+sentBy (pipes c l) s = s ++ l

@@ -1,13 +1,12 @@
 pub mod State
-pub mod Obey
 pub mod Refusals
+pub mod Obey
+pub mod Families
 pub mod Calls
 pub mod World
 pub mod History
 pub mod Replies
-pub mod Rows
 pub mod Checks
+pub mod Transfers
 pub mod Pairs
-pub mod Loads
 pub mod Demands
-pub mod Shown

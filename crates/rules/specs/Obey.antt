@@ -1,10 +1,11 @@
 -- What a command and an acknowledgement do to the pod: checks 7 to 9, and no bytes.
 -- Assumes nothing.
 use Prim.Native.Nat.{ℕ, _-_}
-use mathlib.Core.Logic.{_⊎_, inl, inr}
-use mathlib.Core.Bool.{Bool, true, false, _&&_, _||_, cond}
+use mathlib.Core.Bool.{Bool, true, false, not, _&&_, _||_, cond}
+use mathlib.Core.List.{List, [], _∷_}
 use lib.Dec.{eqb}
 use lib.IntN.{ℤ}
+use Rattle.rows.specs.Rows.{Row, row, Said, refused, gave, Out, out, ran}
 use Rattle.blocks.specs.declared.Store.{Store}
 use Rattle.blocks.specs.declared.Store.the-variants.{Priority, Ordinary}
 use Rattle.blocks.specs.Stores.{capacityOf, droppedRing}
@@ -12,107 +13,106 @@ use Rattle.packets.specs.declared.Fields.{Fields}
 use Rattle.packets.specs.declared.Command.{Command}
 use Rattle.packets.specs.declared.Command.the-variants as command
 use Rattle.packets.specs.declared.Report.{Report}
-use Rattle.packets.specs.Commands.{fieldsBounded}
-use Rattle.params.specs.Rules.{writeOf, valueOf, missingOf}
+use Rattle.packets.specs.Commands.{fieldsBounded, commandRow}
+use Rattle.params.specs.Rules.{isId, valueAt, writeAllowed, stored, missingOf}
+use Rattle.tables.specs.Tables.{starts}
 use Rattle.tables.specs.Port.{closeOf}
 use Rattle.rules.specs.declared.Exchange.{Exchange}
 use Rattle.rules.specs.declared.Exchange.the-variants.{Closed, Status, Read, Receive}
 use Rattle.rules.specs.declared.Pod.{Pod}
 use Rattle.rules.specs.declared.Reply.{Reply}
 use Rattle.rules.specs.declared.Reply.the-variants.{Success, Failure, Report as Reported, Value, Block}
-use Rattle.rules.specs.declared.Obeyed.{Obeyed}
-use Rattle.rules.specs.State.{withInitialised, withFields, withParams, withExchange, withWords, withRing, ringOf, remainingOf, withRemaining, freshPod}
+use Rattle.rules.specs.State.{withInitialised, withFields, withParams, withExchange, withWords, withRing, ringOf, remainingOf, withRemaining, freshPod, Lent, withTables}
 
-abbrev pub obeyed : Reply → Pod → Obeyed
-obeyed r p = record { reply = r; pod = p; restart = false }
+-- what a command gives that passes its checks: success of type 1; of type 2 what the body shows
+pub data Meant : Type 0 where
+  success : Meant
+  report : Meant
+  -- of a parameter, by its id
+  value : ℕ → ℤ → Meant
+  -- the oldest of a store
+  block : Store → Meant
 
--- an error answer; nothing else changes
-abbrev pub failed : ℕ → Pod → Obeyed
-failed n p = obeyed (Failure n) p
+-- a reply in document 01's numbers: a failure is its error number
+unfoldable pub replySaid : Reply → Said Meant
+replySaid Success = gave success
+replySaid (Failure n) = refused n
+replySaid Reported = gave report
+replySaid (Value id v) = gave (value id v)
+replySaid (Block s) = gave (block s)
 
--- "Every other non-empty packet closes an open exchange first, keeping the block."
-abbrev pub shut : Pod → Pod
-shut p = withExchange Closed p
+-- ---- checks 7 to 9, in their order, each with its error number
 
--- ---- the commands, once checks 1 to 7 are passed and an open exchange is closed
+-- 7: "Not initialised, and not 0x90: 0x38."
+abbrev pub awakeCheck : Pod → Row
+awakeCheck p = row 0x38 (not (p .initialised))
+
+-- 8: "A field outside its bounds: 0x39."
+abbrev pub fieldCheck : Bool → Row
+fieldCheck inside = row 0x39 (not inside)
+
+-- 9: "Nothing waiting: 0x3A. Then remaining is 0: 0x3B."
+abbrev pub receiveChecks : Store → Pod → List Row
+receiveChecks s p = awakeCheck p ∷ row 0x3A (eqb (ringOf s p .waiting) 0) ∷ row 0x3B (eqb (remainingOf s (p .fields)) 0) ∷ []
+
+unfoldable pub checksOf : Command → Pod → List Row
+checksOf (command.Initialise f) p = fieldCheck (fieldsBounded f) ∷ []
+checksOf command.Status p = awakeCheck p ∷ []
+checksOf (command.Update f) p = awakeCheck p ∷ fieldCheck (fieldsBounded f) ∷ []
+checksOf (command.Write id v) p = awakeCheck p ∷ fieldCheck (writeAllowed (p .params) id v) ∷ []
+checksOf (command.Read id) p = awakeCheck p ∷ fieldCheck (isId id) ∷ []
+checksOf command.Priority p = receiveChecks Priority p
+checksOf command.Data p = receiveChecks Ordinary p
+checksOf command.Shutdown p = awakeCheck p ∷ []
+
+-- ---- what a command does that passes them, an open exchange being closed
 
 -- "Initialise puts everything back as from power .., marks the pod initialised and then takes its fields"
 unfoldable pub initialisedPod : Fields → Pod
 initialisedPod f = withFields f (withInitialised true freshPod)
 
-unfoldable pub initialiseRule : Fields → Pod → Obeyed
-initialiseRule f p =
-    cond (fieldsBounded f) (record { reply = Success; pod = initialisedPod f; restart = true }) (failed 0x39 p)
+-- a block is shown, and kept
+abbrev pub received : Store → Lent → Pod → Out Meant Pod Lent
+received s l p = out (block s) (withExchange (Receive s) p) l
 
 -- "A type 2 answer without error opens an exchange."
-unfoldable pub statusRule : Pod → Obeyed
-statusRule p = obeyed Reported (withExchange Status p)
-
+unfoldable pub doneBy : Command → Lent → Pod → Out Meant Pod Lent
+doneBy (command.Initialise f) l p = out success (initialisedPod f) (withTables starts l)
+doneBy command.Status l p = out report (withExchange Status p) l
 -- "Update takes the fields and keeps the rest."
-unfoldable pub updateRule : Fields → Pod → Obeyed
-updateRule f p = cond (fieldsBounded f) (obeyed Success (withFields f p)) (failed 0x39 p)
-
--- parameter write: stored and marked, or 0x39
-unfoldable pub writeRule : ℕ → ℤ → Pod → Obeyed
-writeRule id v p =
-    cond (writeOf (p .params) id v .taken) (obeyed Success (withParams (writeOf (p .params) id v .params) p)) (failed 0x39 p)
-
--- parameter read: the value, or an error number
-unfoldable pub readBy : ℕ ⊎ ℤ → ℕ → Pod → Obeyed
-readBy (inl n) id p = failed n p
-readBy (inr v) id p = obeyed (Value id v) (withExchange Read p)
-
-unfoldable pub readRule : ℕ → Pod → Obeyed
-readRule id p = readBy (valueOf (p .params) id) id p
-
--- "Nothing waiting: 0x3A. Then remaining is 0: 0x3B." A block is sent and kept
-unfoldable pub receiveRule : Store → Pod → Obeyed
-receiveRule s p =
-    cond (eqb (ringOf s p .waiting) 0) (failed 0x3A p)
-    (cond (eqb (remainingOf s (p .fields)) 0) (failed 0x3B p)
-    (obeyed (Block s) (withExchange (Receive s) p)))
-
+doneBy (command.Update f) l p = out success (withFields f p) l
+doneBy (command.Write id v) l p = out success (withParams (stored (p .params) id v) p) l
+doneBy (command.Read id) l p = out (value id (valueAt (p .params) id)) (withExchange Read p) l
+doneBy command.Priority l p = received Priority l p
+doneBy command.Data l p = received Ordinary l p
 -- "Shutdown makes the pod not initialised and closes an open transfer, which sets message error."
-unfoldable pub shutdownRule : Pod → Obeyed
-shutdownRule p = obeyed Success (withInitialised false (withWords (closeOf (p .words)) p))
+doneBy command.Shutdown l p = out success (withInitialised false (withWords (closeOf (p .words)) p)) l
 
-unfoldable pub ruleOf : Command → Pod → Obeyed
-ruleOf (command.Initialise f) p = initialiseRule f p
-ruleOf command.Status p = statusRule p
-ruleOf (command.Update f) p = updateRule f p
-ruleOf (command.Write id v) p = writeRule id v p
-ruleOf (command.Read id) p = readRule id p
-ruleOf command.Priority p = receiveRule Priority p
-ruleOf command.Data p = receiveRule Ordinary p
-ruleOf command.Shutdown p = shutdownRule p
+-- a command is its checks and what it does
+unfoldable pub obeyOf : Command → Lent → Pod → Out (Said Meant) Pod Lent
+obeyOf c l p = ran (checksOf c p) p l (doneBy c l p)
 
-abbrev pub isInitialise : Command → Bool
-isInitialise (command.Initialise f) = true
-isInitialise command.Status = false
-isInitialise (command.Update f) = false
-isInitialise (command.Write id v) = false
-isInitialise (command.Read id) = false
-isInitialise command.Priority = false
-isInitialise command.Data = false
-isInitialise command.Shutdown = false
-
--- "Not initialised, and not 0x90: 0x38."
-unfoldable pub obeyOf : Command → Pod → Obeyed
-obeyOf c p = cond (p .initialised || isInitialise c) (ruleOf c p) (failed 0x38 p)
+-- "Every other non-empty packet closes an open exchange first, keeping the block."
+abbrev pub shut : Pod → Pod
+shut p = withExchange Closed p
 
 -- ---- the acknowledgement
 
+-- the command that receives a block of a store
+abbrev pub receives : Store → Command
+receives Priority = command.Priority
+receives Ordinary = command.Data
+
 -- the code of the command whose exchange is open; 0, which is no first byte of an acknowledgement, for none
-abbrev pub codeOf : Exchange → ℕ
-codeOf Closed = 0
-codeOf Status = 0x91
-codeOf Read = 0x94
-codeOf (Receive Priority) = 0x95
-codeOf (Receive Ordinary) = 0x96
+abbrev pub exchangeCode : Exchange → ℕ
+exchangeCode Closed = 0
+exchangeCode Status = commandRow command.Status .code
+exchangeCode Read = commandRow (command.Read 0) .code
+exchangeCode (Receive s) = commandRow (receives s) .code
 
 -- "it is the 0x01 form and its first byte equals the open exchange's code"
 unfoldable pub matches : ℕ → Bool → Exchange → Bool
-matches first one x = one && eqb first (codeOf x)
+matches first one x = one && eqb first (exchangeCode x)
 
 -- "the oldest block of that store is dropped and its remaining falls by 1; were the store empty or its remaining 0, neither would change"
 unfoldable pub dropFrom : Store → Pod → Pod

@@ -2,61 +2,92 @@
 -- Assumes nothing.
 use Prim.Native.Nat.{ℕ}
 use mathlib.Core.Path.{_≡_}
-use mathlib.Core.Bool.{true, false}
-use mathlib.Core.List.{List, [], _∷_, map}
+use mathlib.Core.Bool.{Bool, true, false}
+use mathlib.Core.List.{List, [], _∷_}
 use lib.ListN.{length}
 use Rattle.packets.specs.declared.Fields.{Fields}
 use Rattle.packets.specs.declared.Parsed.the-variants.{Asked}
 use Rattle.packets.specs.declared.Command.the-variants.{Initialise, Shutdown}
-use Rattle.packets.specs.Reading.{readOf}
-use Rattle.rules.specs.State.{soundPod}
-use Rattle.rules.specs.World.{World, Call, packet, Told, step, Point, run}
+use Rattle.packets.specs.Reading.{packetRead}
+use Rattle.tables.specs.declared.Words.{Words}
+use Rattle.pipe.specs.declared.Pipe.{Pipe}
+use Rattle.rules.specs.declared.Exchange.{Exchange}
+use Rattle.rules.specs.State.{Lent, soundPod}
+use Rattle.rules.specs.World.{World, Call, packet, step, next}
 use Rattle.rules.specs.History.{succeeded}
 
 -- the packet is an Initialise with these fields, and this world accepts it
 pub record Accepts (f : Fields) (b room : List ℕ) (w : World) : Type 0 where
-  pub asks : readOf b ≡ Asked (Initialise f)
+  pub asks : packetRead b ≡ Asked (Initialise f)
   pub accepted : succeeded (step w (packet b room) .told) ≡ true
+  -- the words of a load are an array of 64
+  pub load : length (w .lent .load) ≡ 64
 
 -- the packet is a Shutdown, and this world accepts it
 pub record ShutsDown (b room : List ℕ) (w : World) : Type 0 where
-  pub asks : readOf b ≡ Asked Shutdown
+  pub asks : packetRead b ≡ Asked Shutdown
   pub accepted : succeeded (step w (packet b room) .told) ≡ true
 
--- "two such pods that differ only in parameters, table words and survey blocks": the rest of the state and all sizes are equal
--- (the words gathered by the last load are table words)
-pub record Near (v w : World) : Type 0 where
-  pub initialised : v .pod .initialised ≡ w .pod .initialised
-  pub fields : v .pod .fields ≡ w .pod .fields
-  pub exchange : v .pod .exchange ≡ w .pod .exchange
-  pub error : v .pod .words .error ≡ w .pod .words .error
-  pub transfer : v .pod .words .transfer ≡ w .pod .words .transfer
-  pub places : v .pod .words .places ≡ w .pod .words .places
-  pub given : v .pod .words .given ≡ w .pod .words .given
-  pub pipe : v .pod .pipe ≡ w .pod .pipe
-  pub priority : length (v .priority) ≡ length (w .priority)
-  pub ordinary : length (v .ordinary) ≡ length (w .ordinary)
-  pub five : length (v .tables .five) ≡ length (w .tables .five)
-  pub six : length (v .tables .six) ≡ length (w .tables .six)
-  pub seven : length (v .tables .seven) ≡ length (w .tables .seven)
+-- what outlives an accepted Initialise: nothing
+abbrev pub Kept : Type 0
+Kept = Unit {0}
 
--- two such pods, both within their bounds and not initialised
+abbrev pub keptIn : World → Kept
+keptIn w = tt
+
+-- the sizes of all that is lent
+pub record Sizes : Type 0 where
+  pub priority : ℕ
+  pub ordinary : ℕ
+  pub five : ℕ
+  pub six : ℕ
+  pub seven : ℕ
+  pub load : ℕ
+
+abbrev pub sizesIn : Lent → Sizes
+sizesIn l =
+    record {
+      priority = length (l .priority);
+      ordinary = length (l .ordinary);
+      five = length (l .tables .five);
+      six = length (l .tables .six);
+      seven = length (l .tables .seven);
+      load = length (l .load);
+    }
+
+-- all of a world but "parameters, table words and survey blocks" (the words of a load are table words)
+pub record Seen : Type 0 where
+  pub initialised : Bool
+  pub fields : Fields
+  pub exchange : Exchange
+  pub words : Words
+  pub pipe : Pipe
+  pub sizes : Sizes
+
+abbrev pub seenIn : World → Seen
+seenIn w =
+    record {
+      initialised = w .pod .initialised;
+      fields = w .pod .fields;
+      exchange = w .pod .exchange;
+      words = w .pod .words;
+      pipe = w .pod .pipe;
+      sizes = sizesIn (w .lent);
+    }
+
+-- "two such pods that differ only in" those, both within their bounds (else row 3 refuses every call of the one) and not initialised
 pub record Asleep (v w : World) : Type 0 where
-  pub near : Near v w
+  pub seen : seenIn v ≡ seenIn w
   pub first : soundPod (v .pod) ≡ true
   pub second : soundPod (w .pod) ≡ true
   pub off : v .pod .initialised ≡ false
 
--- what some calls tell, without the tables
-unfoldable pub tells : World → List Call → List Told
-tells w cs = map (λ (p : Point). p .told) (run w cs)
-
 -- "any two pasts since power-on, damage and refusals included": a call, or memory overwritten by anything
-pub data Event : Type 0 where
-  ask : Call → Event
-  overwritten : World → Event
+pub data Moment : Type 0 where
+  ask : Call → Moment
+  overwritten : World → Moment
 
-unfoldable pub past : World → List Event → World
+unfoldable pub past : World → List Moment → World
 past w [] = w
-past w (ask c ∷ es) = past (step w c .world) es
+past w (ask c ∷ es) = past (next w c) es
 past w (overwritten v ∷ es) = past v es

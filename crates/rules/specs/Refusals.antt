@@ -1,76 +1,61 @@
--- "Refused calls": document 01's numbers, the lowest first, and the answers in its numbers.
+-- "Refused calls": document 01's numbers and rows, and the answers in its numbers.
 -- Assumes nothing.
 use Prim.Native.Nat.{ℕ}
-use mathlib.Core.Bool.{Bool, not, _&&_, cond}
-use mathlib.Core.List.{List, [], _∷_}
+use mathlib.Core.Bool.{Bool, not, _&&_}
+use mathlib.Core.List.{List}
 use lib.Dec.{ltb, leb, eqb}
 use lib.ListN.{length}
+use Rattle.rows.specs.Rows.{Row, row, Said, refused, gave, Out as Left}
 use Rattle.blocks.specs.declared.Store.{Store}
 use Rattle.blocks.specs.declared.Store.the-variants.{Priority, Ordinary}
-use Rattle.blocks.specs.Stores.{capacityOf}
-use Rattle.tables.specs.Tables.{Three}
--- tables of their exact sizes: "table 5 has 64 words, table 6 has 128, table 7 has 64"
-unfoldable pub use Rattle.tables.specs.Tables.{sizedOf as tablesSized}
+use Rattle.blocks.specs.Stores.{capacityOf, storeSized}
+use Rattle.tables.specs.Tables.{Three, tablesSized}
 use Rattle.frames.specs.Samples.{boundedOf}
 use Rattle.rules.specs.declared.Pod.{Pod}
 use Rattle.rules.specs.declared.Refusal.{Refusal}
 use Rattle.rules.specs.declared.Refusal.the-variants.{Room, Size, State, Count, Over, Asleep, Full}
 use Rattle.rules.specs.declared.Answer.{Answer}
 use Rattle.rules.specs.declared.Answer.the-variants.{Refused, Done, Length, Word}
-use Rattle.rules.specs.State.{ringOf, soundPod}
+use Rattle.rules.specs.State.{Lent, ringOf, soundPod}
 
--- what a call says in document 01's numbers: a refusal's number, done, the length of an answer, a word
-pub data Said : Type 0 where
-  refused : ℕ → Said
-  done : Said
-  bytes : ℕ → Said
-  word : ℕ → Said
+-- ---- what is said
+
+-- what a call gives that is not refused: done, the length of an answer, a word
+pub data Given : Type 0 where
+  done : Given
+  bytes : ℕ → Given
+  reads : ℕ → Given
+
+-- what a call leaves: what it says, the pod, and what was lent
+abbrev pub Out : Type 0 → Type 0
+Out L = Left (Said Given) Pod L
 
 -- "No.": the number of each refusal
-unfoldable pub numberOf : Refusal → ℕ
-numberOf Room = 1
-numberOf Size = 2
-numberOf State = 3
-numberOf Count = 4
-numberOf Over = 5
-numberOf Asleep = 6
-numberOf Full = 7
+unfoldable pub refusalNumber : Refusal → ℕ
+refusalNumber Room = 1
+refusalNumber Size = 2
+refusalNumber State = 3
+refusalNumber Count = 4
+refusalNumber Over = 5
+refusalNumber Asleep = 6
+refusalNumber Full = 7
 
-unfoldable pub saidOf : Answer → Said
-saidOf (Refused r) = refused (numberOf r)
-saidOf Done = done
-saidOf (Length n) = bytes n
-saidOf (Word w) = word w
+-- an answer in document 01's numbers
+unfoldable pub answerSaid : Answer → Said Given
+answerSaid (Refused r) = refused (refusalNumber r)
+answerSaid Done = gave done
+answerSaid (Length n) = gave (bytes n)
+answerSaid (Word w) = gave (reads w)
 
--- a row of the table: its number, and whether it holds
-pub record Row : Type 0 where
-  pub number : ℕ
-  pub holds : Bool
-
-abbrev pub row : ℕ → Bool → Row
-row n b = record { number = n; holds = b }
-
--- "Lowest number first": the number of the first row that holds, 0 where none does
-unfoldable pub lowest : List Row → ℕ
-lowest [] = 0
-lowest (r ∷ rs) = cond (r .holds) (r .number) (lowest rs)
-
--- a call: refused by that number, or answered
-abbrev pub gated {ℓ} : {A : Type ℓ} → List Row → (ℕ → A) → A → A
-gated rows refusal answer = cond (eqb (lowest rows) 0) answer (refusal (lowest rows))
+-- ---- the rows
 
 -- 1: "packet call: answer room under 260 bytes"
 abbrev pub roomRow : List ℕ → Row
 roomRow room = row 1 (ltb (length room) 260)
 
--- a store of its exact size: "priority store 16 blocks, ordinary store 128 blocks, of 256 bytes"
-unfoldable pub storeSized : Store → List ℕ → Bool
-storeSized Priority s = eqb (length s) 4096
-storeSized Ordinary s = eqb (length s) 32768
-
 -- 2: "a lent store or table is not its exact size"
-abbrev pub allRow : List ℕ → List ℕ → Three → Row
-allRow p o t = row 2 (not (storeSized Priority p && (storeSized Ordinary o && tablesSized t)))
+abbrev pub allRow : Lent → Row
+allRow l = row 2 (not (storeSized Priority (l .priority) && (storeSized Ordinary (l .ordinary) && tablesSized (l .tables))))
 
 abbrev pub storeRow : Store → List ℕ → Row
 storeRow s l = row 2 (not (storeSized s l))

@@ -1,7 +1,8 @@
--- The pod's state: as from power, with one part changed, and its bounds.
+-- The pod's state: as from power, with one part changed, and its bounds; and all that is lent to it.
 -- Assumes nothing.
 use Prim.Native.Nat.{ℕ}
 use mathlib.Core.Bool.{Bool, true, false, not, _&&_, _||_}
+use mathlib.Core.List.{List}
 use Rattle.blocks.specs.declared.Store.{Store}
 use Rattle.blocks.specs.declared.Store.the-variants.{Priority, Ordinary}
 use Rattle.blocks.specs.declared.Ring.{Ring}
@@ -9,13 +10,13 @@ use Rattle.blocks.specs.Stores.{capacityOf, soundRing, emptyRing}
 use Rattle.packets.specs.declared.Fields.{Fields}
 use Rattle.packets.specs.Commands.{fieldsBounded}
 use Rattle.params.specs.declared.Params.{Params}
-use Rattle.params.specs.Rules.{startOf as startParams, soundOf as soundParams}
+use Rattle.params.specs.Rules.{startParams, soundParams}
 use Rattle.tables.specs.declared.Words.{Words}
-use Rattle.tables.specs.declared.Transfer.{Transfer}
-use Rattle.tables.specs.Port.{startWords, isOpen}
-use Rattle.tables.specs.Bounds.{soundOf as soundWords}
-use Rattle.pipe.specs.declared.Input.{Input}
-use Rattle.pipe.specs.Input.{freshInput, soundOf as soundInput}
+use Rattle.tables.specs.Tables.{Three}
+use Rattle.tables.specs.Port.{Desk, desk, startWords, isOpen}
+use Rattle.tables.specs.Bounds.{soundWords}
+use Rattle.pipe.specs.declared.Pipe.{Pipe}
+use Rattle.pipe.specs.Pipe.{freshPipe, soundPipe}
 use Rattle.rules.specs.declared.Exchange.{Exchange}
 use Rattle.rules.specs.declared.Exchange.the-variants.{Closed, Status, Read, Receive}
 use Rattle.rules.specs.declared.Pod.{Pod}
@@ -48,7 +49,7 @@ withRing Priority r p =
 withRing Ordinary r p =
     record { initialised = p .initialised; fields = p .fields; params = p .params; exchange = p .exchange; words = p .words; priority = p .priority; ordinary = r; pipe = p .pipe }
 
-abbrev pub withPipe : Input → Pod → Pod
+abbrev pub withPipe : Pipe → Pod → Pod
 withPipe i p =
     record { initialised = p .initialised; fields = p .fields; params = p .params; exchange = p .exchange; words = p .words; priority = p .priority; ordinary = p .ordinary; pipe = i }
 
@@ -78,7 +79,7 @@ freshFields =
 -- "Fresh from power: not initialised, .. stores empty, parameters and tables at their starts"
 unfoldable pub freshPod : Pod
 freshPod =
-    record { initialised = false; fields = freshFields; params = startParams; exchange = Closed; words = startWords; priority = emptyRing; ordinary = emptyRing; pipe = freshInput }
+    record { initialised = false; fields = freshFields; params = startParams; exchange = Closed; words = startWords; priority = emptyRing; ordinary = emptyRing; pipe = freshPipe }
 
 -- ---- the bounds
 
@@ -88,12 +89,9 @@ isClosed Status = false
 isClosed Read = false
 isClosed (Receive s) = false
 
-abbrev pub isIdle : Transfer → Bool
-isIdle t = not (isOpen t)
-
 -- "While not initialised, no exchange and no transfer is open."
 unfoldable pub restful : Pod → Bool
-restful p = p .initialised || (isClosed (p .exchange) && isIdle (p .words .transfer))
+restful p = p .initialised || (isClosed (p .exchange) && not (isOpen (p .words .transfer)))
 
 -- "Bounds of the state", each crate's own and that last sentence
 unfoldable pub soundPod : Pod → Bool
@@ -102,6 +100,36 @@ soundPod p =
     && (soundRing (capacityOf Ordinary) (p .ordinary)
     && (soundParams (p .params)
     && (fieldsBounded (p .fields)
-    && (soundInput (p .pipe)
+    && (soundPipe (p .pipe)
     && (soundWords (p .words)
     && restful p)))))
+
+-- ---- what is lent
+
+-- the two stores, the three tables and the words of an open load, each of any size and with anything in it
+pub record Lent : Type 0 where
+  pub priority : List ℕ
+  pub ordinary : List ℕ
+  pub tables : Three
+  pub load : List ℕ
+
+abbrev pub storeIn : Store → Lent → List ℕ
+storeIn Priority l = l .priority
+storeIn Ordinary l = l .ordinary
+
+abbrev pub withStore : Store → List ℕ → Lent → Lent
+withStore Priority s l = record { priority = s; ordinary = l .ordinary; tables = l .tables; load = l .load }
+withStore Ordinary s l = record { priority = l .priority; ordinary = s; tables = l .tables; load = l .load }
+
+abbrev pub withStores : List ℕ → List ℕ → Lent → Lent
+withStores p o l = withStore Priority p (withStore Ordinary o l)
+
+abbrev pub withTables : Three → Lent → Lent
+withTables t l = record { priority = l .priority; ordinary = l .ordinary; tables = t; load = l .load }
+
+-- what the table words are lent of it
+abbrev pub deskIn : Lent → Desk
+deskIn l = desk (l .tables) (l .load)
+
+abbrev pub withDesk : Desk → Lent → Lent
+withDesk d l = record { priority = l .priority; ordinary = l .ordinary; tables = d .tables; load = d .load }

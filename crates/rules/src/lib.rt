@@ -4,7 +4,7 @@ use blocks::Store;
 use frames::Frames;
 use packets::Fields;
 use params::Params;
-use pipe::Input;
+use pipe::Pipe;
 use pipe::Sent;
 use tables::Words;
 
@@ -24,7 +24,7 @@ pub struct Pod {
     pub words: Words,
     pub priority: Ring,
     pub ordinary: Ring,
-    pub pipe: Input,
+    pub pipe: Pipe,
 }
 
 // Why a call is refused: document 01's rows 1 to 7, in their order.
@@ -65,6 +65,12 @@ pub struct Obeyed {
 pub struct Called {
     pub answer: Answer,
     pub pod: Pod,
+}
+
+// What a table word answers, with the port's next state: all else of the pod is as it came.
+pub struct Worded {
+    pub answer: Answer,
+    pub words: Words,
 }
 
 pub struct Framed {

@@ -1,0 +1,99 @@
+-- What happens, by its event: what each event leaves. Each fold's proof goes by these cases.
+-- Assumes nothing.
+use Prim.Native.Nat.{ℕ, _≤_}
+use mathlib.Core.Path.{_≡_, refl}
+use mathlib.Core.Bool.{Bool, true, false}
+use mathlib.Core.List.{List, []}
+use lib.Dec.{eqb}
+use lib.ListN.{length}
+use lib.IntN.{ℤ}
+use Rattle.rows.specs.Rows.{Clear, none, past}
+use Rattle.rows.proofs.Bool.{not-false}
+use Rattle.rows.proofs.Laws.{clear-head, clear-rest}
+use Rattle.blocks.specs.declared.Store.{Store}
+use Rattle.blocks.specs.declared.Store.the-variants as store
+use Rattle.packets.specs.declared.Command.{Command}
+use Rattle.packets.specs.declared.Command.the-variants.{Initialise, Status, Update, Write, Read, Priority, Data, Shutdown}
+use Rattle.packets.specs.declared.Fields.{Fields}
+use Rattle.packets.specs.Answers.{errorAnswer}
+use Rattle.packets.specs.Commands.{commandRow}
+use Rattle.params.specs.Rules.{writeAllowed, stored}
+use Rattle.tables.specs.Tables.{starts}
+use Rattle.tables.specs.Port.{closeOf}
+use Rattle.pipe.specs.Input.{sentBytes}
+use Rattle.rules.specs.declared.Pod.{Pod}
+use Rattle.rules.specs.declared.Exchange.{Exchange}
+use Rattle.rules.specs.declared.Exchange.the-variants as exchange
+use Rattle.rules.specs.State.{ringOf, remainingOf, freshPod, freshFields, soundPod, withInitialised, withFields, withParams, withExchange, withWords, storeIn, withTables}
+use Rattle.rules.specs.Obey.{initialisedPod, shut, checksOf, doneBy, receiveChecks, acknowledgedOf}
+use Rattle.rules.specs.Families.{WordCall, PipeCall, pipeOf}
+use Rattle.rules.specs.Calls.{meantBody, replyBytes, spokenBytes, answered}
+use Rattle.rules.specs.World.{World, world, Call, packet, put, word, pipe, Told, answering, Stepped, rowsOf}
+use Rattle.rules.specs.History.{Event, nothing, begins, sleeps, updates, writes, opens, closes, acknowledges, puts, words, pipes, obeyedAs, succeeded, eventOf}
+use Rattle.rules.proofs.Happens.{Happens, by-rows, by-power, by-empty, by-damage, by-acknowledgement, by-check, by-command, by-deadline, by-put, by-word, by-pipe, by-samples, powering, obeying, putting, wording, piping}
+use Rattle.rules.proofs.Succeeded.{one-succeeds, error-fails, room-at}
+
+-- the block of an open receive waits, and remaining is above 0
+abbrev pub Waits : Exchange → Pod → Type 0
+Waits exchange.Closed p = Unit {0}
+Waits exchange.Status p = Unit {0}
+Waits exchange.Read p = Unit {0}
+Waits (exchange.Receive s) p = (eqb (ringOf s p .waiting) 0 ≡ false) × (eqb (remainingOf s (p .fields)) 0 ≡ false)
+
+pub data Eventful (w : World) : Event → World → Type 0 where
+  quiet : Eventful w nothing w
+  anew : (b : Bool) (f : Fields) → Eventful w (begins b f) (world (withFields f (withInitialised b freshPod)) (withTables starts (w .lent)))
+  slept : w .pod .initialised ≡ true
+      → Eventful w sleeps (world (withInitialised false (withWords (closeOf (w .pod .words)) (shut (w .pod)))) (w .lent))
+  updated : (f : Fields) → Eventful w (updates f) (world (withFields f (shut (w .pod))) (w .lent))
+  wrote : (id : ℕ) (v : ℤ) → writeAllowed (w .pod .params) id v ≡ true
+      → Eventful w (writes id v) (world (withParams (stored (w .pod .params) id v) (shut (w .pod))) (w .lent))
+  began : (x : Exchange) → w .pod .initialised ≡ true → Waits x (w .pod) → Eventful w (opens x) (world (withExchange x (w .pod)) (w .lent))
+  closed : Eventful w closes (world (shut (w .pod)) (w .lent))
+  acknowledged : (first : ℕ) (one : Bool) → soundPod (w .pod) ≡ true
+      → Eventful w (acknowledges first one) (world (acknowledgedOf first one (w .pod)) (w .lent))
+  shelved : (s : Store) (b : List ℕ) → Clear (rowsOf w (put s b)) → Eventful w (puts s b) (putting s b w .world)
+  spoken : (c : WordCall) → Clear (rowsOf w (word c)) → Eventful w (words c) (wording c w .world)
+  moved : (c : PipeCall) → Clear (rowsOf w (pipe c)) → Eventful w (pipes c (sentBytes (pipeOf c (w .pod .pipe) .lent))) (piping c w .world)
+
+-- where no row of a packet holds, the pod is sound
+pub sound-at : (w : World) (b room : List ℕ) → Clear (rowsOf w (packet b room)) → soundPod (w .pod) ≡ true
+unfolding rowsOf
+sound-at w b room k = not-false (clear-head (clear-rest (clear-rest k)))
+
+-- a command answered without error
+module _ (w : World) (room : List ℕ) (wide : 260 ≤ length room) where
+  obeyed : (c : Command) → Clear (checksOf c (w .pod)) → Eventful w (obeyedAs c) (obeying c room w .world)
+  unfolding checksOf doneBy answered initialisedPod
+  obeyed (Initialise f) q = anew true f
+  obeyed Status (past a none) = began exchange.Status (not-false a) tt
+  obeyed (Update f) q = updated f
+  obeyed (Write id v) (past a (past b none)) = wrote id v (not-false b)
+  obeyed (Read id) (past a q) = began exchange.Read (not-false a) tt
+  obeyed Priority (past a (past b (past c none))) = began (exchange.Receive store.Priority) (not-false a) (b, c)
+  obeyed Data (past a (past b (past c none))) = began (exchange.Receive store.Ordinary) (not-false a) (b, c)
+  obeyed Shutdown (past a none) = slept (not-false a)
+
+  -- it is known by its answer
+  command-succeeds : (c : Command) → succeeded (obeying c room w .told) ≡ true
+  unfolding answered spokenBytes replyBytes
+  command-succeeds c = one-succeeds room (commandRow c .code) _ wide
+
+power-anew : (w : World) → Eventful w (begins false freshFields) (powering w .world)
+unfolding freshPod
+power-anew w = anew false freshFields
+
+pub eventful : {w : World} {c : Call} {s : Stepped} → Happens w c s → Eventful w (eventOf c (s .told)) (s .world)
+unfolding eventOf
+eventful (by-rows c n f) = quiet
+eventful {w} (by-power k) = power-anew w
+eventful {w} (by-empty b room k e) = rw e quiet
+eventful {w} (by-damage b room first n k e) = rw e closed
+eventful {w} (by-acknowledgement b room first one k e) = rw e (acknowledged first one (sound-at w b room k))
+eventful {w} (by-check b room c n k e f) = rw (e, error-fails room (commandRow c .code) n (room-at w b room k)) closed
+eventful {w} (by-command b room c k e q) = rw (e, command-succeeds w room (room-at w b room k) c) (obeyed w room (room-at w b room k) c q)
+eventful (by-deadline k) = closed
+eventful (by-put s b k) = shelved s b k
+eventful (by-word c k) = spoken c k
+eventful (by-pipe c k) = moved c k
+eventful (by-samples k xs c) = quiet

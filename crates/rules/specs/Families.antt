@@ -1,0 +1,58 @@
+-- Calls that touch one part of the pod: the table words and the byte pipe, each over that part and what it is lent alone.
+-- Assumes nothing.
+use Prim.Native.Nat.{ℕ}
+use mathlib.Core.Bool.{Bool}
+use mathlib.Core.List.{List, [], _∷_}
+use Rattle.rows.specs.Rows.{Row, Out, out}
+use Rattle.tables.specs.declared.Words.{Words}
+use Rattle.tables.specs.declared.Answered.{Answered}
+use Rattle.tables.specs.Tables.{Three}
+use Rattle.tables.specs.Port.{Desk, Tabled, tabled, commandOf, dataInOf, dataOutOf, statusOf}
+use Rattle.pipe.specs.declared.Pipe.{Pipe}
+use Rattle.pipe.specs.declared.Sent.{Sent}
+use Rattle.pipe.specs.declared.Piped.{Piped}
+use Rattle.pipe.specs.Input.{pipeByte, pipeTimeout}
+use Rattle.rules.specs.Refusals.{Given, done, reads, tablesRow}
+
+-- ---- the table words
+
+pub data WordCall : Type 0 where
+  command : ℕ → WordCall
+  dataIn : ℕ → WordCall
+  dataOut : WordCall
+  status : WordCall
+
+-- a word written, and a word read
+abbrev pub wordWritten : Tabled → Out Given Words Desk
+wordWritten s = out done (s .words) (s .desk)
+
+abbrev pub wordRead : Answered → Desk → Out Given Words Desk
+wordRead a d = out (reads (a .word)) (a .words) d
+
+-- a Bool says whether the pod is initialised
+unfoldable pub wordOf : WordCall → Bool → Words → Desk → Out Given Words Desk
+wordOf (command x) on w d = wordWritten (commandOf on x (tabled w d))
+wordOf (dataIn x) on w d = wordWritten (dataInOf x (tabled w d))
+wordOf dataOut on w d = wordRead (dataOutOf w (d .tables)) d
+wordOf status on w d = wordRead (statusOf w) d
+
+-- the rows of what it is lent: all but the status word are lent the tables
+unfoldable pub wordLent : WordCall → Three → List Row
+wordLent (command x) t = tablesRow t ∷ []
+wordLent (dataIn x) t = tablesRow t ∷ []
+wordLent dataOut t = tablesRow t ∷ []
+wordLent status t = []
+
+-- ---- the byte pipe
+
+pub data PipeCall : Type 0 where
+  byte : ℕ → PipeCall
+  timeout : PipeCall
+
+-- what the input half makes of a call; what is sent is given back
+abbrev pub inputMoved : Piped → Pipe → Out Given Pipe Sent
+inputMoved q p = out done (record { input = q .input }) (q .sent)
+
+unfoldable pub pipeOf : PipeCall → Pipe → Out Given Pipe Sent
+pipeOf (byte b) p = inputMoved (pipeByte (p .input) b) p
+pipeOf timeout p = inputMoved (pipeTimeout (p .input)) p

@@ -1,0 +1,251 @@
+-- Loads and reads with the calls that come in between their words, the tables and message error: by what happens, the open transfer
+-- and the order heard.
+-- Assumes nothing.
+use Prim.Native.Nat.{ℕ, _+_, _-_, _<_}
+use mathlib.Core.Path.{_≡_}
+use mathlib.Core.Bool.{Bool, true, false, not, _&&_, _||_, cond}
+use mathlib.Core.List.{List, [], _∷_, _++_}
+use lib.Dec.{ltb, eqb}
+use lib.ListN.{length, getD, set}
+use lib.Seq.{sets}
+use Rattle.tables.specs.declared.Table.{Table}
+use Rattle.tables.specs.declared.Header.{Header}
+use Rattle.tables.specs.declared.Words.{Words}
+use Rattle.tables.specs.declared.Order.{Order}
+use Rattle.tables.specs.declared.Order.the-variants.{Other, Stop, Restart, Next, Writing, Reading}
+use Rattle.tables.specs.declared.Transfer.{Transfer}
+use Rattle.tables.specs.declared.Transfer.the-variants.{Idle, Address, Load, Read}
+use Rattle.tables.specs.Tables.{Three, starts, tableNumber, tablesSized, wordsOf, withTable, readPlace}
+use Rattle.tables.specs.Command.{orderHeard}
+use Rattle.tables.specs.Port.{Desk, desk, dataCount, fits, header, isOpen, beginsAt, closeOf, withTransfer, withError, loadRight, storedIn}
+use Rattle.rules.specs.State.{soundPod, withWords, withDesk}
+use Rattle.rules.specs.Families.{WordCall, command, dataIn, dataOut, status}
+use Rattle.rules.specs.World.{World, world, withPod, Call, power, packet, deadline, put, word, pipe, samples, step, next}
+use Rattle.rules.specs.History.{Event, nothing, begins, sleeps, updates, writes, opens, closes, acknowledges, puts, words, pipes, eventOf, events}
+
+-- a world in which no row that applies to a table word holds
+pub record Fit (w : World) : Type 0 where
+  pub tables : tablesSized (w .lent .tables) ≡ true
+  pub sound : soundPod (w .pod) ≡ true
+  -- the words of a load are an array of 64
+  pub load : length (w .lent .load) ≡ 64
+
+-- ---- the calls between
+
+-- what closes an open transfer before its last word, its own words not counted: "every command word", "a data word .. with no transfer
+-- that way", Shutdown, and all that begins anew
+abbrev pub cutsLoad : WordCall → Bool
+cutsLoad (command x) = true
+cutsLoad (dataIn x) = false
+cutsLoad dataOut = true
+cutsLoad status = false
+
+abbrev pub cutsRead : WordCall → Bool
+cutsRead (command x) = true
+cutsRead (dataIn x) = true
+cutsRead dataOut = false
+cutsRead status = false
+
+unfoldable pub cuts : (WordCall → Bool) → Event → Bool
+cuts f nothing = false
+cuts f (begins a g) = true
+cuts f sleeps = true
+cuts f (updates g) = false
+cuts f (writes id v) = false
+cuts f (opens x) = false
+cuts f closes = false
+cuts f (acknowledges first one) = false
+cuts f (puts s b) = false
+cuts f (words c) = f c
+cuts f (pipes c l) = false
+
+-- none of these does
+unfoldable pub leftOpen : (WordCall → Bool) → List Event → Bool
+leftOpen f [] = true
+leftOpen f (e ∷ es) = not (cuts f e) && leftOpen f es
+
+-- the data words that a call writes, and how many it reads
+abbrev pub wordWritten : WordCall → List ℕ
+wordWritten (command x) = []
+wordWritten (dataIn x) = x ∷ []
+wordWritten dataOut = []
+wordWritten status = []
+
+abbrev pub callWritten : Call → List ℕ
+callWritten power = []
+callWritten (packet b room) = []
+callWritten deadline = []
+callWritten (put s b) = []
+callWritten (word c) = wordWritten c
+callWritten (pipe c) = []
+callWritten (samples k xs) = []
+
+abbrev pub wordReads : WordCall → ℕ
+wordReads (command x) = 0
+wordReads (dataIn x) = 0
+wordReads dataOut = 1
+wordReads status = 0
+
+abbrev pub callReads : Call → ℕ
+callReads power = 0
+callReads (packet b room) = 0
+callReads deadline = 0
+callReads (put s b) = 0
+callReads (word c) = wordReads c
+callReads (pipe c) = 0
+callReads (samples k xs) = 0
+
+-- the data words written among some calls, the other calls, and how many data words are read
+unfoldable pub writtenIn : List Call → List ℕ
+writtenIn [] = []
+writtenIn (c ∷ cs) = callWritten c ++ writtenIn cs
+
+unfoldable pub othersIn : List Call → List Call
+othersIn [] = []
+othersIn (c ∷ cs) = cond (eqb (length (callWritten c)) 0) (c ∷ othersIn cs) (othersIn cs)
+
+unfoldable pub readsIn : List Call → ℕ
+readsIn [] = 0
+readsIn (c ∷ cs) = callReads c + readsIn cs
+
+-- ---- a load
+
+-- the world with a load open of which no word has come, any other transfer being closed
+abbrev pub opened : Header → World → World
+opened h w = withPod (withWords (withTransfer (Load h 0) (closeOf (w .pod .words))) (w .pod)) w
+
+-- the tables with a load of these words: where every check passes the addressed words of its table are new, else none is
+abbrev pub judged : Header → List ℕ → Three → Three
+judged h xs s = cond (loadRight h xs) (withTable (h .table) (storedIn h xs (wordsOf (h .table) s)) s) s
+
+-- a world with these tables so, and its open load closed, message error being set where a check fails; all else is as it was
+abbrev pub loaded : Header → List ℕ → Three → World → World
+loaded h xs s w =
+    world (withWords (withTransfer Idle (withError (w .pod .words .error || not (loadRight h xs)) (w .pod .words))) (w .pod))
+    (withDesk (desk (judged h xs s) (sets (w .lent .load) 0 xs)) (w .lent))
+
+-- from its command word x on, whatever calls cs come in between that do not close it, a load's last word being y
+pub record Loads (w : World) (x : ℕ) (h : Header) (cs : List Call) : Type 0 where
+  pub fit : Fit w
+  pub awake : w .pod .initialised ≡ true
+  pub asked : orderHeard true x ≡ Writing (h .table) (h .n)
+  pub still : leftOpen cutsLoad (events (opened h w) cs) ≡ true
+  pub last : length (writtenIn cs) + 1 ≡ h .n
+
+-- an open load, and calls bs that do not close it and do not bring its last word
+pub record Loading (w : World) (h : Header) (bs : List Call) : Type 0 where
+  pub fit : Fit w
+  pub begun : w .pod .words .transfer ≡ Load h 0
+  pub still : leftOpen cutsLoad (events w bs) ≡ true
+  pub short : length (writtenIn bs) < h .n
+
+-- ---- a read
+
+-- "A read of N gives the same three header words and N-3 data words": word k, from 0, of the tables as they are
+unfoldable pub wordShown : Header → ℕ → Three → ℕ → ℕ
+wordShown h at s k =
+    cond (eqb k 0) (tableNumber (h .table))
+    (cond (eqb k 1) at
+    (cond (eqb k 2) (h .n - 3)
+    (getD (wordsOf (h .table) s) (at + (k - 3)) 0)))
+
+-- from its command word x on, whatever calls cs come in between that do not close it, fewer than N words being read
+pub record Reads (w : World) (x : ℕ) (h : Header) (at : ℕ) (cs : List Call) : Type 0 where
+  pub fit : Fit w
+  pub awake : w .pod .initialised ≡ true
+  pub asked : orderHeard true x ≡ Reading (h .table) (h .n)
+  -- "starting at the given address .., else at that table's read place"
+  pub begun : at ≡ beginsAt (w .pod .words .given) (readPlace (h .table) (w .pod .words .places))
+  -- not "a read that would pass its table's end"
+  pub within : fits (h .table) at (dataCount h) ≡ true
+  pub still : leftOpen cutsRead (events (next w (word (command x))) cs) ≡ true
+  pub short : readsIn cs < h .n
+
+-- ---- message error
+
+-- an order that is not accepted, or a read that would pass its table's end
+abbrev pub notTaken : Order → Words → Bool
+notTaken Other w = true
+notTaken Stop w = false
+notTaken Restart w = false
+notTaken Next w = false
+notTaken (Writing t n) w = false
+notTaken (Reading t n) w = not (fits t (beginsAt (w .given) (readPlace t (w .places))) (n - 3))
+
+-- a data word written: "with no transfer that way sets message error"; a load "is judged with its last word"
+abbrev pub errsIn : Transfer → ℕ → List ℕ → Bool → Bool
+errsIn Idle x l e = true
+errsIn Address x l e = e
+errsIn (Load h k) x l e = e || (not (ltb (k + 1) (h .n)) && not (loadRight h (set l k x)))
+errsIn (Read h k at) x l e = true
+
+abbrev pub errsOut : Transfer → Bool → Bool
+errsOut Idle e = true
+errsOut Address e = true
+errsOut (Load h k) e = true
+errsOut (Read h k at) e = e
+
+-- message error after a table word, e before it: "every command word closes an open transfer, and closing one before its last word
+-- sets message error"; "reading it clears the error"
+unfoldable pub wordErrs : WordCall → Bool → Words → List ℕ → Bool → Bool
+wordErrs (command x) on w l e = e || (isOpen (w .transfer) || notTaken (orderHeard on x) w)
+wordErrs (dataIn x) on w l e = errsIn (w .transfer) x l e
+wordErrs dataOut on w l e = errsOut (w .transfer) e
+wordErrs status on w l e = false
+
+-- and after any call, e before it, by the open transfer and the words of a load so far; on says whether the pod was initialised
+unfoldable pub errorBy : Event → Bool → Words → List ℕ → Bool → Bool
+errorBy nothing on w l e = e
+errorBy (begins a f) on w l e = false
+errorBy sleeps on w l e = e || isOpen (w .transfer)
+errorBy (updates f) on w l e = e
+errorBy (writes id v) on w l e = e
+errorBy (opens x) on w l e = e
+errorBy closes on w l e = e
+errorBy (acknowledges first one) on w l e = e
+errorBy (puts s b) on w l e = e
+errorBy (words c) on w l e = wordErrs c on w l e
+errorBy (pipes c b) on w l e = e
+
+-- by all of some calls
+unfoldable pub errorFrom : Bool → World → List Call → Bool
+errorFrom e w [] = e
+errorFrom e w (c ∷ cs) =
+    errorFrom (errorBy (eventOf c (step w c .told)) (w .pod .initialised) (w .pod .words) (w .lent .load) e) (next w c) cs
+
+-- ---- the tables
+
+abbrev pub isRestart : Order → Bool
+isRestart Other = false
+isRestart Stop = false
+isRestart Restart = true
+isRestart Next = false
+isRestart (Writing t n) = false
+isRestart (Reading t n) = false
+
+-- a load "changes the addressed words and no other", and only with its last word
+abbrev pub tablesIn : Transfer → ℕ → Desk → Three
+tablesIn Idle x d = d .tables
+tablesIn Address x d = d .tables
+tablesIn (Load h k) x d = cond (ltb (k + 1) (h .n)) (d .tables) (judged h (set (d .load) k x) (d .tables))
+tablesIn (Read h k at) x d = d .tables
+
+unfoldable pub wordTables : WordCall → Bool → Words → Desk → Three
+wordTables (command x) on w d = cond (isRestart (orderHeard on x)) starts (d .tables)
+wordTables (dataIn x) on w d = tablesIn (w .transfer) x d
+wordTables dataOut on w d = d .tables
+wordTables status on w d = d .tables
+
+-- the tables after any call: power on and an accepted Initialise leave "tables .. at their starts"
+unfoldable pub tablesBy : Event → Bool → Words → Desk → Three
+tablesBy nothing on w d = d .tables
+tablesBy (begins a f) on w d = starts
+tablesBy sleeps on w d = d .tables
+tablesBy (updates f) on w d = d .tables
+tablesBy (writes id v) on w d = d .tables
+tablesBy (opens x) on w d = d .tables
+tablesBy closes on w d = d .tables
+tablesBy (acknowledges first one) on w d = d .tables
+tablesBy (puts s b) on w d = d .tables
+tablesBy (words c) on w d = wordTables c on w d
+tablesBy (pipes c l) on w d = d .tables
