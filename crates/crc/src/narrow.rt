@@ -1,7 +1,7 @@
 // The register of 16 bits: one byte more, and two and four at once.
 ghost use mathlib.Core.Path.{_≡_};
 ghost use mathlib.Core.List.{[], _∷_};
-ghost use Prim.Native.Nat.{_/_, _%_};
+ghost use Prim.Native.Nat.{_/_};
 ghost use Rattle.crc.specs.Crc.{crcFrom};
 ghost use Rattle.crc.specs.Fold.{bytesOf};
 
