@@ -10,7 +10,7 @@ use lib.ListN.{length, getD, take, drop, take-append-drop}
 use lib.Seq.{drop-cons, drop-drop}
 use lib.Pow.{pow-add, shl-exact, shl-lt, shr-shr, field, mod-mod-pow, high, low}
 use Rattle.crc.specs.Crc.{crcFrom}
-use Rattle.crc.specs.Fold.{bytesOf}
+use Rattle.crc.specs.Bytes.{bytesOf}
 use Rattle.crc.proofs.Register.{byteIn-xor, from-none, from-one, from-append}
 
 -- a number below 256 is its one byte
