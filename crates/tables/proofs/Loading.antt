@@ -1,0 +1,58 @@
+-- The judgement of a load, over any table.
+use mathlib.Core.Path.{_≡_}
+use mathlib.Core.Bool.{true, false, _&&_}
+use mathlib.Core.List.{List}
+use Prim.Native.Nat.{ℕ, _+_, _≤_, _<_}
+use borrow.Author.Tests.{leb-true, eqb-true, lt-ltb, le-ltb}
+use lib.Dec.{eqb}
+use lib.ListN.{getD, set}
+use Rattle.tables.specs.declared.Header.{Header}
+use Rattle.tables.specs.declared.Words.{Words}
+use Rattle.tables.specs.declared.Transfer.the-variants.{Idle, Load}
+use Rattle.tables.specs.Tables.{tableNumber, tableSize, Three, wordsOf, withTable}
+use Rattle.tables.specs.Port.{desk, Tabled, tabled, withTransfer, erred, dataCount, wordThree, fits, loadRight, storedIn, loadJudged, loadOf}
+use Rattle.tables.proofs.Bool.{and-left, and-right}
+
+-- what a load that is taken has right
+pub record Right (h : Header) (l : List ℕ) : Type 0 where
+  pub first : getD l 0 0 ≡ tableNumber (h .table)
+  pub third : getD l 2 0 ≡ wordThree h
+  pub end : getD l 1 0 + dataCount h ≤ tableSize (h .table)
+
+pub right-has : (h : Header) (l : List ℕ) → loadRight h l ≡ true → Right h l
+unfolding loadRight
+right-has h l e =
+    let a = eqb (getD l 0 0) (tableNumber (h .table)) in
+    let b = eqb (getD l 2 0) (wordThree h) in
+    let d = fits (h .table) (getD l 1 0) (dataCount h) in
+    let rest = and-right a (b && d) e in
+    record {
+      first = eqb-true _ _ (and-left a (b && d) e);
+      third = eqb-true _ _ (and-left b d rest);
+      end = leb-true _ _ (and-right b d rest);
+    }
+
+module _ (h : Header) (l : List ℕ) (w : Words) (s : Three) where
+  -- a right load is stored
+  pub judged-right : loadRight h l ≡ true
+      → loadJudged h l w s ≡ tabled w (desk (withTable (h .table) (storedIn h l (wordsOf (h .table) s)) s) l)
+  unfolding loadJudged
+  judged-right e = rw e
+
+  -- of any other nothing is written, and message error is set
+  pub judged-wrong : loadRight h l ≡ false → loadJudged h l w s ≡ tabled (erred w) (desk s l)
+  unfolding loadJudged
+  judged-wrong e = rw e
+
+module _ (h : Header) (k x : ℕ) (s : Tabled) where
+  -- before its last word a load only gathers
+  pub load-more : k + 1 < h .n
+      → loadOf h k x s ≡ tabled (withTransfer (Load h (k + 1)) (s .words)) (desk (s .desk .tables) (set (s .desk .load) k x))
+  unfolding loadOf
+  load-more e = rw (lt-ltb _ _ e)
+
+  -- with its last word it is closed and judged
+  pub load-last : h .n ≤ k + 1
+      → loadOf h k x s ≡ loadJudged h (set (s .desk .load) k x) (withTransfer Idle (s .words)) (s .desk .tables)
+  unfolding loadOf
+  load-last e = rw (le-ltb _ _ e)

@@ -1,0 +1,15 @@
+-- `tables::asked::parts` meets its contract.
+use borrow.Author.Needs.{needs}
+use Rattle.tables.specs.Command.{partsOf}
+use Rattle.tables.proofs.asked.parts.Statement.{statement}
+use Rattle.tables.proofs.asked.parts.Tie as tie
+
+odd-ones-requires : tie.Need-odd-ones-requires
+odd-ones-requires c κs = search needs
+
+returns : tie.Need-returns
+unfolding partsOf
+returns c = simp (c .odd-ones .ensures)
+
+pub parts-spec : {M : Type 1} → statement M
+parts-spec = tie.close (tie.spec odd-ones-requires returns)

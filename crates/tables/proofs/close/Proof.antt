@@ -1,0 +1,30 @@
+-- `tables::close` meets its contract.
+use borrow.Author.Needs.{needs}
+use mathlib.Core.Path.{_∙_, ap, sym}
+use mathlib.Core.Bool.{Bool, not, _||_}
+use Rattle.tables.specs.declared.Words.{Words}
+use Rattle.tables.specs.declared.Transfer.the-variants.{Idle}
+use Rattle.tables.specs.Port.{withTransfer, withError, isOpen, closeOf}
+use Rattle.tables.proofs.Bool.{not-not}
+use Rattle.tables.proofs.close.Statement.{statement}
+use Rattle.tables.proofs.close.Tie as tie
+
+idle-requires : tie.Need-idle-requires
+idle-requires c κs = search needs
+
+with-error-requires : tie.Need-with-error-requires
+with-error-requires c κs = search needs
+
+with-transfer-requires : tie.Need-with-transfer-requires
+with-transfer-requires c κs = search needs
+
+returns : tie.Need-returns
+unfolding closeOf
+returns c =
+    let w = c .before .before .before .before .args .w in
+    let shown = ap not (c .before .before .before .idle .ensures) ∙ not-not (isOpen (w .transfer)) in
+    c .with-transfer .ensures
+    ∙ ap (withTransfer Idle) (c .before .with-error .ensures ∙ ap (λ (b : Bool). withError (w .error || b) w) shown)
+
+pub close-spec : {M : Type 1} → statement M
+close-spec = tie.close (tie.spec idle-requires with-error-requires with-transfer-requires returns)
