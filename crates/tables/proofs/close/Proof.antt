@@ -1,8 +1,7 @@
 -- `tables::close` meets its contract.
 use borrow.Author.Needs.{needs}
-use mathlib.Core.Path.{_∙_, ap, sym}
+use mathlib.Core.Path.{_∙_, ap}
 use mathlib.Core.Bool.{Bool, not, _||_}
-use Rattle.tables.specs.declared.Words.{Words}
 use Rattle.tables.specs.declared.Transfer.the-variants.{Idle}
 use Rattle.tables.specs.Port.{withTransfer, withError, isOpen, closeOf}
 use Rattle.tables.proofs.Bool.{not-not}
