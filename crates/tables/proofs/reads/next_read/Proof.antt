@@ -1,6 +1,6 @@
 -- `tables::reads::next_read` meets its contract.
-use borrow.Author.Tests.{lt-ltb, le-ltb}
 use borrow.Author.Needs.{needs}
+use borrow.Author.Tests.{lt-ltb, le-ltb}
 use Rattle.tables.specs.Port.{readNext}
 use Rattle.tables.proofs.reads.next_read.Statement.{statement}
 use Rattle.tables.proofs.reads.next_read.Tie as tie
