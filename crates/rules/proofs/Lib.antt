@@ -4,3 +4,4 @@ pub mod Succeeded
 pub mod Eventful
 pub mod Inside
 pub mod Sound
+pub mod Answered
