@@ -5,3 +5,4 @@ pub mod Eventful
 pub mod Inside
 pub mod Sound
 pub mod Answered
+pub mod Checked
