@@ -2,3 +2,4 @@ pub mod Stores
 pub mod Happens
 pub mod Succeeded
 pub mod Eventful
+pub mod Flow
