@@ -5,3 +5,4 @@ pub mod Eventful
 pub mod Histories
 pub mod Untouched
 pub mod Flow
+pub mod Frames
