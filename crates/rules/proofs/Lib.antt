@@ -6,3 +6,5 @@ pub mod Histories
 pub mod Untouched
 pub mod Flow
 pub mod Frames
+pub mod Inside
+pub mod Sound
