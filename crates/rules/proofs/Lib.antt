@@ -2,3 +2,5 @@ pub mod Stores
 pub mod Happens
 pub mod Succeeded
 pub mod Eventful
+pub mod TablesOnly
+pub mod MessageError
