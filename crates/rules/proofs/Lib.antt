@@ -4,3 +4,4 @@ pub mod Succeeded
 pub mod Eventful
 pub mod TablesOnly
 pub mod MessageError
+pub mod Histories
