@@ -5,3 +5,5 @@ pub mod Eventful
 pub mod TablesOnly
 pub mod MessageError
 pub mod Histories
+pub mod Untouched
+pub mod Flow
