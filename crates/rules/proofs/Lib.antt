@@ -7,3 +7,6 @@ pub mod MessageError
 pub mod Histories
 pub mod Untouched
 pub mod Flow
+pub mod Inside
+pub mod Sound
+pub mod Answered
