@@ -10,3 +10,5 @@ pub mod Inside
 pub mod Sound
 pub mod Answered
 pub mod Checked
+pub mod TablesOnly
+pub mod MessageError
