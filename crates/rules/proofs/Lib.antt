@@ -5,3 +5,5 @@ pub mod Eventful
 pub mod Inside
 pub mod Sound
 pub mod Answered
+pub mod WordsAlike
+pub mod Twins
