@@ -12,3 +12,5 @@ pub mod Answered
 pub mod Checked
 pub mod TablesOnly
 pub mod MessageError
+pub mod WordsAlike
+pub mod Twins
