@@ -2,8 +2,9 @@
 use mathlib.Core.Path.{_≡_, refl, ap, _∙_}
 use mathlib.Core.Bool.{true, false}
 use mathlib.Core.List.{List, _∷_}
-use Prim.Native.Nat.{ℕ, suc, _+_, _-_, _≤_}
+use Prim.Native.Nat.{ℕ, suc, _+_, _-_, _≤_, _<_}
 use native.Mathlib.Omega.{arith}
+use borrow.Author.Tests.{lt-ltb, le-ltb}
 use lib.Dec.{lit≤}
 use lib.ListN.{getD, drop}
 use lib.Seq.{getD-drop}
@@ -12,9 +13,9 @@ use Rattle.tables.specs.declared.Table.the-variants.{Five, Six, Seven}
 use Rattle.tables.specs.declared.Header.{Header}
 use Rattle.tables.specs.declared.Words.{Words}
 use Rattle.tables.specs.declared.Given.the-variants.{Nowhere}
-use Rattle.tables.specs.declared.Transfer.the-variants.{Read}
+use Rattle.tables.specs.declared.Transfer.the-variants.{Idle, Read}
 use Rattle.tables.specs.Tables.{tableNumber, tableSize, withReadPlace}
-use Rattle.tables.specs.Port.{dataCount, wordThree, fits, readOpenedAt, readWord, erred, withGiven, withPlaces, withTransfer}
+use Rattle.tables.specs.Port.{dataCount, wordThree, fits, readOpenedAt, readWord, readNext, erred, withGiven, withPlaces, withTransfer}
 
 -- a read that would pass its table's end sets message error and does no more: place and given address are kept
 pub read-past : (h : Header) (at : ℕ) (w : Words) → fits (h .table) at (dataCount h) ≡ false → readOpenedAt h at w ≡ erred w
@@ -47,6 +48,17 @@ module _ (h : Header) (at : ℕ) (table : List ℕ) where
   read-data k far =
       let more : k ≡ suc (suc (suc (k - 3))) = omega arith in
       ap (λ (j : ℕ). getD (tableNumber (h .table) ∷ at ∷ wordThree h ∷ drop at table) j 0) more ∙ getD-drop at table (k - 3) 0
+
+module _ (h : Header) (k at : ℕ) where
+  -- a read one word on
+  pub read-more : k + 1 < h .n → readNext h k at ≡ Read h (k + 1) at
+  unfolding readNext
+  read-more e = rw (lt-ltb _ _ e)
+
+  -- after its last word it is closed
+  pub read-last : h .n ≤ k + 1 → readNext h k at ≡ Idle
+  unfolding readNext
+  read-last e = rw (le-ltb _ _ e)
 
 -- no table is larger than 128 words
 pub size-most : (t : Table) → tableSize t ≤ 128
