@@ -6,3 +6,4 @@ pub mod Inside
 pub mod Sound
 pub mod Answered
 pub mod Checked
+pub mod Said
