@@ -10,7 +10,7 @@ use lib.Dec.{eqb, ltb}
 use lib.ListN.{length, getD, take, drop}
 use lib.Seq.{sets, sets-eq, take-at, drop-at}
 use borrow.Author.Tests.{eqb-true, eqb-false}
-use Rattle.rows.specs.Rows.{Clear, none, past, gave}
+use Rattle.rows.specs.Rows.{Clear, past, gave}
 use Rattle.rows.proofs.Bool.{never, and-left, and-right, and-false, not-false, not-true}
 use Rattle.rows.proofs.Laws.{clear-head, clear-rest, never-both, first-one}
 use Rattle.blocks.specs.declared.Store.{Store}

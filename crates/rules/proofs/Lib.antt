@@ -14,3 +14,4 @@ pub mod TablesOnly
 pub mod MessageError
 pub mod WordsAlike
 pub mod Twins
+pub mod Said
