@@ -8,3 +8,6 @@ pub mod Flow
 pub mod Frames
 pub mod Inside
 pub mod Sound
+pub mod Settling
+pub mod Holds
+pub mod Written
