@@ -60,9 +60,9 @@ more-waits Closed s p h = tt
 more-waits Status s p h = tt
 more-waits Read s p h = tt
 more-waits (Receive r) s p h = (
-  rw (of-changed r s (putRing (ringOf s p)) (p .priority) (p .ordinary))
+  rw (of-changed (λ t. putRing (ringOf t p)) r s (p .priority) (p .ordinary))
       (by-test (λ (q : Ring). eqb (q .waiting) 0 ≡ false) (sameStore r s)
-      (λ e. ne-eqb (putRing (ringOf s p) .waiting) 0 (λ z. omega (arith, put-counts (ringOf s p)))) (λ e. h .0)),
+      (λ e. ne-eqb (putRing (ringOf r p) .waiting) 0 (λ z. omega (arith, put-counts (ringOf r p)))) (λ e. h .0)),
   h .1,
 )
 

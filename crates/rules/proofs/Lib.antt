@@ -11,3 +11,4 @@ pub mod Sound
 pub mod Settling
 pub mod Holds
 pub mod Written
+pub mod Blocks

@@ -18,12 +18,18 @@ pub store-new : (s : Store) (x : List ℕ) (l : Lent) → storeIn s (withStore s
 store-new Priority x l = refl
 store-new Ordinary x l = refl
 
--- of two things of which that of a store is changed: the changed one, or that as it was. So of rings, remainings and bytes
-pub of-changed : {A : Type 0} (r s : Store) (x a b : A) → ofStore r (ofStore s x a) (ofStore s b x) ≡ cond (sameStore r s) x (ofStore r a b)
-of-changed Priority Priority x a b = refl
-of-changed Priority Ordinary x a b = refl
-of-changed Ordinary Priority x a b = refl
-of-changed Ordinary Ordinary x a b = refl
+-- two things that are one
+pub of-both : {A : Type 0} (s : Store) (a : A) → ofStore s a a ≡ a
+of-both Priority a = refl
+of-both Ordinary a = refl
+
+-- two things of which that of a store is changed: so with the rings, the remainings and the bytes
+pub of-changed : {A : Type 0} (f : Store → A) (r s : Store) (a b : A)
+    → ofStore r (ofStore s (f s) a) (ofStore s b (f s)) ≡ cond (sameStore r s) (f r) (ofStore r a b)
+of-changed f Priority Priority a b = refl
+of-changed f Priority Ordinary a b = refl
+of-changed f Ordinary Priority a b = refl
+of-changed f Ordinary Ordinary a b = refl
 
 -- a store is the one that it is the same as
 pub same-is : (r s : Store) → sameStore r s ≡ true → r ≡ s
