@@ -2,20 +2,18 @@
 -- Assumes nothing.
 use Prim.Native.Nat.{ℕ}
 use mathlib.Core.Path.{_≡_, refl, ap, _∙_}
-use mathlib.Core.Bool.{Bool, true, cond}
+use mathlib.Core.Bool.{Bool, cond}
 use mathlib.Core.List.{List, [], _∷_, _++_}
-use lib.ListN.{length, drop}
 use Rattle.rows.specs.Rows.{Clear}
 use Rattle.rows.proofs.Bool.{split}
 use Rattle.blocks.specs.declared.Store.{Store}
-use Rattle.blocks.specs.declared.Ring.{Ring}
 use Rattle.blocks.specs.Stores.{capacityOf, emptyRing, blocksIn, putRing, putStore, droppedRing}
 use Rattle.blocks.proofs.Laws.{none-waiting, drop-takes, put-appends}
 use Rattle.rules.specs.declared.Exchange.{Exchange}
 use Rattle.rules.specs.declared.Pod.{Pod}
 use Rattle.rules.specs.State.{Lent, ringOf, storeIn, freshPod}
 use Rattle.rules.specs.World.{World, put, rowsOf, powered}
-use Rattle.rules.specs.History.{Event, acknowledges, puts, sameStore, Waiting, nothingWaits, blocksBy, waitingBy}
+use Rattle.rules.specs.History.{Event, acknowledges, sameStore, Waiting, nothingWaits, blocksBy, waitingBy}
 use Rattle.rules.specs.Demands.{BlocksAreHistory}
 use Rattle.rules.proofs.Happens.{putting}
 use Rattle.rules.proofs.Eventful.{Eventful, quiet, anew, slept, updated, wrote, began, closed, acknowledged, shelved, spoken, moved}

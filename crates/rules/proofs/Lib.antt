@@ -12,3 +12,5 @@ pub mod Settling
 pub mod Holds
 pub mod Written
 pub mod Blocks
+pub mod Replied
+pub mod Shows
