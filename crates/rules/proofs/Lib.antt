@@ -14,3 +14,6 @@ pub mod Written
 pub mod Blocks
 pub mod Replied
 pub mod Shows
+pub mod Answered
+pub mod Checked
+pub mod Said

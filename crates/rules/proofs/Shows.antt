@@ -25,7 +25,7 @@ use Rattle.rules.specs.World.{World, Call, answering, final, powered}
 use Rattle.rules.specs.History.{events, fold, markBy}
 use Rattle.rules.specs.Replies.{reportFrom, statusFrom, readAnswered, receivedOf, receivedFrom}
 use Rattle.rules.specs.Demands.{ReceiveIsHistory, StatusIsHistory, ReadIsWritten}
-use Rattle.rules.proofs.Replied.{checkedAnswer, shownBy, command-told}
+use Rattle.rules.proofs.Replied.{commandAnswer, command-told}
 use Rattle.rules.proofs.Holds.{awake-is, fields-are}
 use Rattle.rules.proofs.Written.{value-is, mark-is}
 use Rattle.rules.proofs.Blocks.{waitingIn, blocks-are-history}
@@ -47,7 +47,7 @@ receive-done Priority l p = refl
 receive-done Ordinary l p = refl
 
 receive-shown : (s : Store) (w : World)
-    → checkedAnswer (checksOf (receives s) (w .pod)) (commandRow (receives s) .code) (shownBy (receives s) w)
+    → commandAnswer (receives s) w
     ≡ receivedOf (commandRow (receives s) .code) (w .pod .initialised) (waitingIn s w) (remainingOf s (w .pod .fields))
 unfolding receivedOf meantBody dataAnswer oldestOf
 receive-shown s w = rw (receive-checks s (w .pod), receive-done s (w .lent) _, counted s w)
@@ -92,7 +92,7 @@ report-is l cs =
     )
 
 status-shown : (w : World)
-    → checkedAnswer (checksOf command.Status (w .pod)) (commandRow command.Status .code) (shownBy command.Status w)
+    → commandAnswer command.Status w
     ≡ cond (w .pod .initialised) (statusAnswer 0x91 (reportOf (w .pod))) (errorAnswer 0x91 0x38)
 unfolding checksOf doneBy meantBody commandRow commandPlace statusAnswer reportOf
 status-shown w = split (w .pod .initialised) (λ a. rw a) (λ a. rw a)
@@ -107,7 +107,7 @@ status-is-history l cs b room asks ok =
 -- ---- a parameter read
 
 read-shown : (id : ℕ) (w : World)
-    → checkedAnswer (checksOf (command.Read id) (w .pod)) (commandRow (command.Read id) .code) (shownBy (command.Read id) w)
+    → commandAnswer (command.Read id) w
     ≡ cond (not (w .pod .initialised)) (errorAnswer 0x94 0x38)
     (cond (isId id) (valueAnswer 0x94 id (valueAt (w .pod .params) id)) (errorAnswer 0x94 0x39))
 unfolding checksOf doneBy meantBody commandRow commandPlace valueAnswer
