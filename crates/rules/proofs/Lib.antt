@@ -10,3 +10,5 @@ pub mod Flow
 pub mod Inside
 pub mod Sound
 pub mod Answered
+pub mod Between
+pub mod ReadWhole
