@@ -7,3 +7,5 @@ pub mod Sound
 pub mod Answered
 pub mod WordsAlike
 pub mod Twins
+pub mod Accepted
+pub mod NoTrace
