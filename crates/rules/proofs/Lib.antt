@@ -12,3 +12,7 @@ pub mod Sound
 pub mod Answered
 pub mod Between
 pub mod ReadWhole
+pub mod WordsAlike
+pub mod Twins
+pub mod Accepted
+pub mod NoTrace
