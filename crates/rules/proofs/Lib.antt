@@ -6,6 +6,8 @@ pub mod Histories
 pub mod Untouched
 pub mod Flow
 pub mod Frames
+pub mod TablesOnly
+pub mod MessageError
 pub mod Inside
 pub mod Sound
 pub mod Settling
@@ -17,3 +19,9 @@ pub mod Shows
 pub mod Answered
 pub mod Checked
 pub mod Said
+pub mod Between
+pub mod ReadWhole
+pub mod WordsAlike
+pub mod Twins
+pub mod Accepted
+pub mod NoTrace
