@@ -52,6 +52,7 @@ frames-bytes a p on check f few counted busy =
     -- "low byte, then bits 9 and 8"
     low : (c : ℕ) → part (getD a c 0) 7 0 ≡ getD a c 0 % 256
     low c = omega arith
+
     high : (c : ℕ) → c < 8 → part (getD a c 0) 9 8 ≡ getD a c 0 / 256
     high c h = omega (arith, few c h)
 

@@ -6,3 +6,4 @@ pub mod Histories
 pub mod Untouched
 pub mod Flow
 pub mod Frames
+pub mod Shown
