@@ -6,4 +6,12 @@ pub mod Histories
 pub mod Untouched
 pub mod Flow
 pub mod Frames
+pub mod Inside
+pub mod Sound
+pub mod Settling
+pub mod Holds
+pub mod Written
+pub mod Blocks
+pub mod Replied
+pub mod Shows
 pub mod Shown
