@@ -25,6 +25,7 @@ use Rattle.rules.specs.History.{Flow, noFlow, flowBy, events, fold}
 use Rattle.rules.specs.Replies.{framesFrom, awakeFrom}
 use Rattle.rules.specs.Demands.{FramesAreHistory}
 use Rattle.rules.proofs.Happens.{Happens, by-rows, by-samples, happens}
+use Rattle.rules.proofs.Holds.{awake-is}
 use Rattle.rules.proofs.Flow.{Flowing, many-gathered, flowing-is}
 
 -- a flag at its bit
@@ -52,6 +53,7 @@ frames-bytes a p on check f few counted busy =
     -- "low byte, then bits 9 and 8"
     low : (c : ℕ) → part (getD a c 0) 7 0 ≡ getD a c 0 % 256
     low c = omega arith
+
     high : (c : ℕ) → c < 8 → part (getD a c 0) 9 8 ≡ getD a c 0 / 256
     high c h = omega (arith, few c h)
 
@@ -63,7 +65,7 @@ tens w k xs q c h =
     rw (averages-at 16 xs c h) (omega (arith, average-fits 16 xs c inside))
 
 -- what an answered sample set tells, by what the pipe's calls put in
-pub shown : {w : World} {k : ℕ} {xs : List ℕ} {s : Stepped} → Happens w (samples k xs) s → not (isRefused (s .told .said)) ≡ true
+shown : {w : World} {k : ℕ} {xs : List ℕ} {s : Stepped} → Happens w (samples k xs) s → not (isRefused (s .told .said)) ≡ true
     → (f : Flow) (sent : List ℕ) → Flowing (w .pod .pipe .input) sent f
     → s .told ≡ told (gave done) (framesFrom (averagesOf 16 xs) f (w .pod .initialised) k)
 unfolding framesOf
@@ -74,3 +76,8 @@ shown {w} (by-samples k xs q) e f sent x =
     ap (λ (l : List ℕ). told (gave done) l)
     (frames-bytes (averagesOf 16 xs) (w .pod .pipe) (w .pod .initialised) k f (tens w k xs q) (x .flows .counted)
     (gathering-is i (length (f .gathered)) (sym many) (omega (arith, x .whole .few))))
+
+pub frames-are-history : FramesAreHistory
+frames-are-history l cs k xs e =
+    shown (happens (final (powered l) cs) (samples k xs)) e (fold flowBy noFlow (events (powered l) cs)) _ (flowing-is l cs)
+    ∙ ap (λ (b : Bool). told (gave done) (framesFrom (averagesOf 16 xs) (fold flowBy noFlow (events (powered l) cs)) b k)) (awake-is l cs)

@@ -25,3 +25,4 @@ pub mod WordsAlike
 pub mod Twins
 pub mod Accepted
 pub mod NoTrace
+pub mod Shown
