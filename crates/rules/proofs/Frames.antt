@@ -1,10 +1,10 @@
 -- The two frames by the history: sixteen bytes whole.
 -- Assumes nothing.
-use Prim.Native.Nat.{ℕ, _+_, _*_, _/_, _%_, _^_, _≤_, _<_, min}
+use Prim.Native.Nat.{ℕ, _*_, _/_, _%_, _≤_, _<_, min}
 use native.Mathlib.Omega.{arith}
 use mathlib.Core.Path.{_≡_, refl, sym, ap, _∙_}
 use mathlib.Core.Bool.{Bool, true, false, not, cond, _&&_, false≢true}
-use mathlib.Core.List.{List, [], _∷_, _++_}
+use mathlib.Core.List.{List, _++_}
 use lib.Dec.{ltb, leb}
 use lib.ListN.{length, getD}
 use borrow.Author.Tests.{le-leb}
@@ -16,13 +16,13 @@ use Rattle.pipe.specs.declared.Pipe.{Pipe}
 use Rattle.pipe.specs.Input.{gatheringOf}
 use Rattle.frames.specs.Fields.{part, frame}
 use Rattle.frames.specs.Layout.{lines03, lines47, framesOf}
-use Rattle.frames.specs.Samples.{averageOf, averagesOf, boundedOf}
+use Rattle.frames.specs.Samples.{averagesOf, boundedOf}
 use Rattle.frames.proofs.Bytes.{bytes-03, bytes-47}
 use Rattle.frames.proofs.Means.{average-fits, averages-at}
 use Rattle.rules.specs.Refusals.{done}
 use Rattle.rules.specs.World.{World, samples, told, Stepped, isRefused, rowsOf, final, powered}
 use Rattle.rules.specs.History.{Flow, noFlow, flowBy, events, fold}
-use Rattle.rules.specs.Replies.{framesFrom, awakeFrom}
+use Rattle.rules.specs.Replies.{framesFrom}
 use Rattle.rules.specs.Demands.{FramesAreHistory}
 use Rattle.rules.proofs.Happens.{Happens, by-rows, by-samples, happens}
 use Rattle.rules.proofs.Holds.{awake-is}

@@ -15,3 +15,4 @@ pub mod Blocks
 pub mod Replied
 pub mod Shows
 pub mod Shown
+pub mod NotEmpty
