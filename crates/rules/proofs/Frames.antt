@@ -2,8 +2,8 @@
 -- Assumes nothing.
 use Prim.Native.Nat.{ℕ, _*_, _/_, _%_, _≤_, _<_, min}
 use native.Mathlib.Omega.{arith}
-use mathlib.Core.Path.{_≡_, refl, sym, ap, _∙_}
-use mathlib.Core.Bool.{Bool, true, false, not, cond, _&&_, false≢true}
+use mathlib.Core.Path.{_≡_, sym, ap, _∙_}
+use mathlib.Core.Bool.{Bool, true, false, not, cond, false≢true, and-true}
 use mathlib.Core.List.{List, _++_}
 use lib.Dec.{ltb, leb}
 use lib.ListN.{length, getD}
@@ -37,10 +37,6 @@ flag-at false n = omega arith
 gathering-is : (i : Input) (n : ℕ) → i .gathered ≡ n → n ≤ 7 → gatheringOf i ≡ ltb 0 n
 unfolding gatheringOf
 gathering-is i n e h = rw (e, le-leb n 7 h) (and-true (leb 1 n))
-  where
-    and-true : (b : Bool) → (b && true) ≡ b
-    and-true true = refl
-    and-true false = refl
 
 -- the bytes of the two frames, where every average has ten bits, with what the pipe shows
 frames-bytes : (a : List ℕ) (p : Pipe) (on : Bool) (check : ℕ) (f : Flow) → ((c : ℕ) → c < 8 → getD a c 0 < 1024)
