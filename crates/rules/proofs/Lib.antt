@@ -26,3 +26,4 @@ pub mod Twins
 pub mod Accepted
 pub mod NoTrace
 pub mod Shown
+pub mod NotEmpty
