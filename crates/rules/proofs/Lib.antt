@@ -9,3 +9,5 @@ pub mod WordsAlike
 pub mod Twins
 pub mod Accepted
 pub mod NoTrace
+pub mod Sleepers
+pub mod Asleep
