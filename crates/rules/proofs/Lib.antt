@@ -25,5 +25,7 @@ pub mod WordsAlike
 pub mod Twins
 pub mod Accepted
 pub mod NoTrace
+pub mod Sleepers
+pub mod Asleep
 pub mod Shown
 pub mod NotEmpty
