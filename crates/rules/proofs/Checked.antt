@@ -26,7 +26,6 @@ use Rattle.packets.specs.Answers.{withCrc, answerOf, doneAnswer, statusAnswer, 
 use Rattle.packets.proofs.Laws.{answer-right, done-length, status-length, value-length, data-length}
 use Rattle.params.proofs.Laws.{missing-length}
 use Rattle.tables.specs.Tables.{tablesSized}
-use Rattle.rules.specs.declared.Exchange.the-variants.{Receive}
 use Rattle.rules.specs.declared.Pod.{Pod}
 use Rattle.rules.specs.State.{Lent, storeIn, ringOf, freshPod}
 use Rattle.rules.specs.Obey.{initialisedPod, shut, checksOf, receiveChecks, doneBy, received, exchangeCode, reportOf}
@@ -36,12 +35,12 @@ use Rattle.rules.specs.World.{World, withPod, packet, answering, Stepped
 use Rattle.rules.specs.History.{succeeded, errored}
 use Rattle.rules.specs.Checks.{Succeeds, Answers, damaged}
 use Rattle.rules.specs.Demands.{PacketAnswered, OpensExactly, Damage, ErrorUnchanged}
-use Rattle.rules.proofs.Stores.{ring-exchange}
 use Rattle.rules.proofs.Happens.{Happens, by-rows, by-empty, by-damage, by-acknowledgement, by-check, by-command, checks-shut, obeying, happens}
 use Rattle.rules.proofs.Succeeded.{error-fails, one-errs-not, room-at}
 use Rattle.rules.proofs.Eventful.{sound-at, command-succeeds}
 use Rattle.rules.proofs.Inside.{PodIn, pod-in, ring-in, in-shut}
 use Rattle.rules.proofs.Answered.{answered-clear}
+use Rattle.rules.proofs.Replied.{shownBy}
 
 -- ---- an answer in its room
 
@@ -75,9 +74,6 @@ short-answers Shutdown = omega arith
 
 -- ---- the body of a command that passes its checks
 
-abbrev shownBy : Command → Lent → Pod → List ℕ
-shownBy c l p = meantBody (doneBy c l p .said) (doneBy c l p .pod) (doneBy c l p .lent)
-
 -- of a type 1 command
 done-shown : (c : Command) (l : Lent) (p : Pod) → commandRow c .kind ≡ 1 → shownBy c l p ≡ 0x7E ∷ []
 unfolding commandRow commandPlace doneBy meantBody
@@ -97,8 +93,7 @@ module _ (l : Lent) (p : Pod) (inside : PodIn p) (sized : (s : Store) → storeS
   unfolding storeSized meantBody dataAnswer
   block-long s first (past on (past some k)) =
       let waits = eqb-false (ringOf s p .waiting) 0 some in
-      rw (ring-exchange s (Receive s) p)
-      (data-length first _ (oldest-whole (capacityOf s) (ringOf s p) (storeIn s l) (ring-in inside s) (eqb-true _ _ (sized s)) (omega arith)))
+      data-length first _ (oldest-whole (capacityOf s) (ringOf s p) (storeIn s l) (ring-in inside s) (eqb-true _ _ (sized s)) (omega arith))
 
   -- the answer has as many bytes as the packet table says
   answer-long : (c : Command) → Clear (checksOf c p) → length (answerOf (commandRow c .code) 0x01 (shownBy c l p)) ≡ commandRow c .answer

@@ -1,13 +1,12 @@
 -- Two worlds with one pod and the same table words, whose stores and load may hold other bytes but have the same blocks waiting and
 -- the same words of an open load: every call tells the same in both, and leaves two such worlds.
 -- Assumes nothing.
-use Prim.Native.Nat.{ℕ, _-_, _*_, _<_}
+use Prim.Native.Nat.{ℕ, _-_}
 use mathlib.Core.Path.{_≡_, refl, sym, ap, ap₂, _∙_}
 use mathlib.Core.Bool.{Bool, true, _||_}
 use mathlib.Core.List.{List, [], _∷_}
 use lib.Dec.{eqb}
 use lib.ListN.{length}
-use borrow.Author.Tests.{eqb-true, leb-false}
 use Rattle.rows.specs.Rows.{Clear, Said, refused, gave, Out, out, given}
 use Rattle.rows.proofs.Bool.{by-test, not-false}
 use Rattle.rows.proofs.Laws.{clear-head, clear-rest, ran-two}
@@ -33,11 +32,12 @@ use Rattle.rules.specs.State.{withFields, withWords, withRing, ringOf, r
 use Rattle.rules.specs.Obey.{Meant, success, report, value, block, shut, initialisedPod, checksOf, doneBy, obeyOf, matches, dropFrom, settled, acknowledgedOf}
 use Rattle.rules.specs.Refusals.{Given, allRow}
 use Rattle.rules.specs.Families.{WordCall, command, dataIn, dataOut, status, wordLent}
-use Rattle.rules.specs.Calls.{powerCall, Spoken, silent, says, replied, packetHeard, meantBody, replyBytes, spokenBytes, answered, packetCall, deadlineCall, putRows, putCall, wordRows, worded, wordCall, pipeCall, samplesCall}
+use Rattle.rules.specs.Calls.{powerCall, Spoken, silent, says, replied, packetHeard, meantBody, replyBytes, spokenBytes, answered, packetCall, deadlineCall, putCall, wordRows, worded, wordCall, pipeCall, samplesCall}
 use Rattle.rules.specs.World.{World, world, Call, power, packet, deadline, put, word, pipe, samples, Told, Stepped, overTables, overRoom, overNothing, overStore, overDesk, overSent, overFrames, step, rowsOf, Point, point, run}
 use Rattle.rules.proofs.Stores.{store-same}
 use Rattle.rules.proofs.Happens.{putting, wording}
 use Rattle.rules.proofs.Inside.{pod-in, ring-in}
+use Rattle.rules.proofs.Sound.{PutFits, put-fits}
 use Rattle.rules.proofs.WordsAlike.{cameOf, Gathered, none-came, SameDesk, same-desk, words-alike}
 
 -- ---- one store
@@ -64,6 +64,7 @@ abbrev pub Alike : Pod → Lent → Lent → Type 0
 Alike p l m = Held (p .priority) (p .ordinary) (cameOf (p .words .transfer)) l m
 
 module _ (p : Pod) {l m : Lent} (h : Alike p l m) where
+  -- of either store
   held : (s : Store) → Holds s (ringOf s p) (storeIn s l) (storeIn s m)
   held Priority = h .priority
   held Ordinary = h .ordinary
@@ -81,24 +82,21 @@ module _ (p : Pod) {l m : Lent} (h : Alike p l m) where
   cleared : Held emptyRing emptyRing 0 l m
   cleared = record { priority = emptied Priority (h .priority .size); ordinary = emptied Ordinary (h .ordinary .size); load = none-came 0 refl (h .load .long) }
 
-  -- a put, where no row holds
-  added : (s : Store) (b : List ℕ) → Clear (putRows s b (storeIn s l) p)
+  -- a put that is not refused
+  added : (s : Store) (b : List ℕ) → PutFits s b (world p l)
       → Alike (withRing s (putRing (ringOf s p)) p) (withStore s (putStore (capacityOf s) (ringOf s p) (storeIn s l) b) l)
       (withStore s (putStore (capacityOf s) (ringOf s p) (storeIn s m) b) m)
-  unfolding storeSized
-  added s b k =
+  added s b f =
       let n = capacityOf s in
       let r = ringOf s p in
       let x = storeIn s l in
       let y = storeIn s m in
-      let size : length x ≡ n * 256 = eqb-true _ _ (not-false (clear-head k)) in
-      let ok = ring-in (pod-in p (not-false (clear-head (clear-rest k)))) s in
-      let whole : length b ≡ 256 = eqb-true _ _ (not-false (clear-head (clear-rest (clear-rest k)))) in
-      let room : r .waiting < n = leb-false _ _ (clear-head (clear-rest (clear-rest (clear-rest (clear-rest k))))) in
+      let k = held s in
+      let ok = ring-in (pod-in p (f .sound)) s in
       with-held s (putRing r) (putStore n r x b) (putStore n r y b)
       (record {
-        size = put-length n r x b ∙ held s .size ∙ sym (put-length n r y b);
-        blocks = twin-put n r x y (held s .blocks) b ok room size (sym (held s .size) ∙ size) whole;
+        size = put-length n r x b ∙ k .size ∙ sym (put-length n r y b);
+        blocks = twin-put n r x y (k .blocks) b ok (f .free) (f .store) (sym (k .size) ∙ f .store) (f .block);
       })
 
 -- ---- the acknowledgement
@@ -199,7 +197,7 @@ module _ (p : Pod) (l m : Lent) (h : Alike p l m) where
         → Same (overRoom (given (answered (replied first (given (doneBy c l (shut p)))) room)) w₁)
         (overRoom (given (answered (replied first (given (doneBy c (withTables (l .tables) m) (shut p)))) room)) w₂)
     unfolding doneBy initialisedPod freshPod startWords closeOf
-    obeyed-same (asked.Initialise f) k first = answer-same (says first (gave success)) (initialisedPod f) starts (cleared p h)
+    obeyed-same (asked.Initialise f) k first = answer-same (says first _) _ starts (cleared p h)
     obeyed-same asked.Status k first = answer-same (says first _) _ (l .tables) h
     obeyed-same (asked.Update f) k first = answer-same (says first _) _ (l .tables) h
     obeyed-same (asked.Write id v) k first = answer-same (says first _) _ (l .tables) h
@@ -220,9 +218,9 @@ module _ (p : Pod) (l m : Lent) (h : Alike p l m) where
         ran-two (λ o q. Same (overRoom (given (answered (replied first o) room)) w₁) (overRoom (given (answered (replied first q) room)) w₂)) refl
         (λ n. answer-same (says first (refused n)) (shut p) (l .tables) h) (λ k. obeyed-same c k first)
 
-  put-same : (s : Store) (b : List ℕ) → Clear (putRows s b (storeIn s l) p) → Same (putting s b w₁) (putting s b w₂)
-  put-same Priority b k = record { points = refl; twins = twin _ _ _ (added p h Priority b k) }
-  put-same Ordinary b k = record { points = refl; twins = twin _ _ _ (added p h Ordinary b k) }
+  put-same : (s : Store) (b : List ℕ) → Clear (rowsOf w₁ (put s b)) → Same (putting s b w₁) (putting s b w₂)
+  put-same Priority b k = record { points = refl; twins = twin _ _ _ (added p h Priority b (put-fits Priority b w₁ k)) }
+  put-same Ordinary b k = record { points = refl; twins = twin _ _ _ (added p h Ordinary b (put-fits Ordinary b w₁ k)) }
 
   word-same : (c : WordCall) → Clear (wordRows c (l .tables) p) → Same (wording c w₁) (wording c w₂)
   word-same c k = on (words-alike c (p .initialised) (p .words) (l .tables) (l .load) (m .load) (pod-in p (sound-word c (l .tables) p k) .words) (h .load))
@@ -255,6 +253,9 @@ twin-step (twin p l m h) c = steps-same p l m h c
 pub twin-run : (cs : List Call) {v w : World} → Twin v w → run v cs ≡ run w cs
 unfolding run
 twin-run [] z = refl
-twin-run (c ∷ cs) z =
-    let x = twin-step z c in
-    ap₂ (λ (a : Point) (r : List Point). a ∷ r) (x .points) (twin-run cs (x .twins))
+twin-run (c ∷ cs) z = let x = twin-step z c in ap₂ (λ (a : Point) (r : List Point). a ∷ r) (x .points) (twin-run cs (x .twins))
+
+-- and so do two worlds that one call makes twins
+pub same-run : (v w : World) (c : Call) (cs : List Call) → Same (step v c) (step w c) → run v (c ∷ cs) ≡ run w (c ∷ cs)
+unfolding run
+same-run v w c cs x = ap₂ (λ (a : Point) (r : List Point). a ∷ r) (x .points) (twin-run cs (x .twins))
