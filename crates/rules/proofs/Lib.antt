@@ -16,3 +16,4 @@ pub mod WordsAlike
 pub mod Twins
 pub mod Accepted
 pub mod NoTrace
+pub mod Holding
