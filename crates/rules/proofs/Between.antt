@@ -19,7 +19,7 @@ use Rattle.rules.specs.Obey.{initialisedPod, doneBy}
 use Rattle.rules.specs.Families.{WordCall, command, dataIn, dataOut, status, wordLent, PipeCall}
 use Rattle.rules.specs.Calls.{answered, wordCall}
 use Rattle.rules.specs.World.{World, Call, power, packet, deadline, put, word, pipe, samples, Stepped, step, rowsOf, next, final}
-use Rattle.rules.specs.History.{Event, obeyedAs, eventOf}
+use Rattle.rules.specs.History.{Event, words, obeyedAs, eventOf}
 use Rattle.rules.specs.Transfers.{Fit, cuts}
 use Rattle.rules.proofs.Happens.{Happens, by-rows, by-power, by-empty, by-damage, by-acknowledgement, by-check, by-command, by-deadline, by-put, by-pipe, by-samples, obeying, wording}
 use Rattle.rules.proofs.Succeeded.{error-fails, room-at}
@@ -45,6 +45,10 @@ fit-clear h status = past (ap not (h .sound)) none
 pub word-fit : (w : World) → Fit w → (x : WordCall) → step w (word x) ≡ wording x w
 unfolding step rowsOf wordCall
 word-fit w h x = rw (ran-clear (w .pod) (deskIn (w .lent)) _ (fit-clear h x))
+
+pub word-event : (w : World) → Fit w → (x : WordCall) → eventOf (word x) (step w (word x) .told) ≡ words x
+unfolding eventOf
+word-event w h x = ap (λ (s : Stepped). eventOf (word x) (s .told)) (word-fit w h x)
 
 -- ---- any other call
 

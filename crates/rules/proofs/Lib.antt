@@ -17,3 +17,4 @@ pub mod Twins
 pub mod Accepted
 pub mod NoTrace
 pub mod Holding
+pub mod Gathering
