@@ -50,7 +50,7 @@ module _ (h : Header) where
   abbrev pub along : ℕ → List ℕ → World → World
   along k l z = hold (Load h k) l z
 
-  fit-along : (k : ℕ) (l : List ℕ) (z : World) → Open z → length l ≡ 64 → k < h .n → Fit (along k l z)
+  pub fit-along : (k : ℕ) (l : List ℕ) (z : World) → Open z → length l ≡ 64 → k < h .n → Fit (along k l z)
   fit-along k l z o long i =
       record {
         tables = o .fit .tables;

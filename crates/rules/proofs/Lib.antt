@@ -18,3 +18,4 @@ pub mod Accepted
 pub mod NoTrace
 pub mod Holding
 pub mod Gathering
+pub mod LoadWhole

@@ -72,11 +72,11 @@ module _ (h : Header) (d e : List ℕ) (least : 4 ≤ h .n) (g : take (h .n) d �
   word-same : (i : ℕ) → i < h .n → getD d i 0 ≡ getD e i 0
   word-same i k = sym (getD-take (h .n) d i 0 k) ∙ ap (λ (l : List ℕ). getD l i 0) g ∙ getD-take (h .n) e i 0 k
 
-  right-same : loadRight h d ≡ loadRight h e
+  pub right-same : loadRight h d ≡ loadRight h e
   unfolding loadRight
   right-same = rw (word-same 0 (omega arith), word-same 1 (omega arith), word-same 2 (omega arith))
 
-  stored-same : (t : List ℕ) → storedIn h d t ≡ storedIn h e t
+  pub stored-same : (t : List ℕ) → storedIn h d t ≡ storedIn h e t
   unfolding storedIn
   stored-same t =
       let all : 3 + dataCount h ≡ h .n = omega arith in
