@@ -81,7 +81,8 @@ pub record Kept (w v : World) : Type 0 where
 -- what it is to an open transfer, by its event
 pub data Ported (w : World) : Event → World → Type 0 where
   apart : (e : Event) (v : World) → ((f : WordCall → Bool) → cuts f e ≡ false) → Kept w v → Ported w e v
-  ends : (e : Event) (v : World) → ((f : WordCall → Bool) → cuts f e ≡ true) → v .pod .words .transfer ≡ Idle → Ported w e v
+  ends : (e : Event) (v : World) → ((f : WordCall → Bool) → cuts f e ≡ true) → v .pod .words .transfer ≡ Idle → v .lent .load ≡ w .lent .load
+      → Ported w e v
 
 still : (w : World) → Kept w w
 still w = record { words = refl; desk = refl }
@@ -93,19 +94,19 @@ store-desk store.Ordinary x l = refl
 -- a command answered without error
 command-ported : (w : World) (room : List ℕ) (c : Command) → Ported w (obeyedAs c) (obeying c room w .world)
 unfolding doneBy answered cuts initialisedPod freshPod startWords closeOf
-command-ported w room (Initialise f) = ends _ _ (λ g. refl) refl
+command-ported w room (Initialise f) = ends _ _ (λ g. refl) refl refl
 command-ported w room Status = apart _ _ (λ g. refl) (record { words = refl; desk = refl })
 command-ported w room (Update f) = apart _ _ (λ g. refl) (record { words = refl; desk = refl })
 command-ported w room (Write id v) = apart _ _ (λ g. refl) (record { words = refl; desk = refl })
 command-ported w room (Read id) = apart _ _ (λ g. refl) (record { words = refl; desk = refl })
 command-ported w room Priority = apart _ _ (λ g. refl) (record { words = refl; desk = refl })
 command-ported w room Data = apart _ _ (λ g. refl) (record { words = refl; desk = refl })
-command-ported w room Shutdown = ends _ _ (λ g. refl) refl
+command-ported w room Shutdown = ends _ _ (λ g. refl) refl refl
 
 pub ported : {w : World} {c : Call} {s : Stepped} → Other c → Happens w c s → Ported w (eventOf c (s .told)) (s .world)
 unfolding eventOf cuts freshPod startWords
 ported {w} o (by-rows c n f) = apart _ _ (λ g. refl) (still w)
-ported o (by-power k) = ends _ _ (λ g. refl) refl
+ported o (by-power k) = ends _ _ (λ g. refl) refl refl
 ported {w} o (by-empty b room k e) = rw e (apart _ _ (λ g. refl) (still w))
 ported o (by-damage b room first n k e) = rw e (apart _ _ (λ g. refl) (record { words = refl; desk = refl }))
 ported {w} o (by-acknowledgement b room first one k e) =

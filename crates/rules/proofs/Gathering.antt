@@ -107,7 +107,7 @@ module _ (h : Header) where
         let so = ap (λ (y : Stepped). y .world) (other-held h k (omega arith) l z 0 (omega arith) (o .transfer) q) in
         alike c (written-none q) (so ∙ ap (λ (u : Transfer). hold (beside (Load h k) u) l (next z c)) (same ∙ o .transfer))
         (open-next z (next z c) o (sound-next z c (o .fit .sound)) same (kept .desk)) (kept .desk) more n
-    other-passes q (ends e v f t) i more n = never (f cutsLoad) i
+    other-passes q (ends e v f t m) i more n = never (f cutsLoad) i
 
     -- a table word
     word-passes : (x : WordCall) → cutsLoad x ≡ false → leftOpen cutsLoad (events (next (along k l z) (word x)) cs) ≡ true

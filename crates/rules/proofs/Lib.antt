@@ -19,3 +19,4 @@ pub mod NoTrace
 pub mod Holding
 pub mod Gathering
 pub mod LoadWhole
+pub mod LoadCut

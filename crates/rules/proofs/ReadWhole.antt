@@ -89,7 +89,7 @@ module _ (h : Header) (at : ℕ) (places : Places) where
   other-along {w} (apart e v f q) k i s o =
       stays v w k (o .fit) s (q .desk) (ap (λ (x : Words). x .transfer) (q .words) ∙ o .transfer) (ap (λ (x : Words). x .places) (q .words) ∙ o .moved)
       (ap (λ (x : Words). x .given) (q .words) ∙ o .given)
-  other-along (ends e v f t) k i s o = never (f cutsRead) i
+  other-along (ends e v f t l) k i s o = never (f cutsRead) i
 
   call-along : (w : World) (k : ℕ) {c : Call} → Which c → cuts cutsRead (eventOf c (step w c .told)) ≡ false → k + callReads c < h .n
       → soundPod (next w c .pod) ≡ true → Along w k → Along (next w c) (k + callReads c)

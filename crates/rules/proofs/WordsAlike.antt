@@ -94,7 +94,7 @@ pub data SameDesk : Out Given Words Desk → Out Given Words Desk → Type 0 whe
 NoneCame : Words → Type 0
 NoneCame w = cameOf (w .transfer) ≡ 0
 
-obeyed-none : (o : Order) (w : Words) → cameOf (orderObeyed o (closeOf w) .transfer) ≡ 0
+pub obeyed-none : (o : Order) (w : Words) → cameOf (orderObeyed o (closeOf w) .transfer) ≡ 0
 unfolding orderObeyed closeOf restarted readOpened readOpenedAt NoneCame
 obeyed-none Other w = refl
 obeyed-none Stop w = refl
@@ -104,7 +104,7 @@ obeyed-none (Writing t n) w = refl
 obeyed-none (Reading t n) w = by-test NoneCame (fits t _ (n - 3)) (λ e. refl) (λ e. refl)
 
 -- nor after a data word read
-given-none : (u : Transfer) (w : Words) (t : Three) → cameOf (wordGiven u w t .words .transfer) ≡ 0
+pub given-none : (u : Transfer) (w : Words) (t : Three) → cameOf (wordGiven u w t .words .transfer) ≡ 0
 unfolding wordGiven wrongWay readNext
 given-none Idle w t = refl
 given-none Address w t = refl
