@@ -33,3 +33,4 @@ pub mod Holding
 pub mod Gathering
 pub mod LoadWhole
 pub mod LoadCut
+pub mod Whole
