@@ -12,7 +12,7 @@ use lib.Dec.{leb}
 use lib.IntN.{ℤ, pos}
 use lib.ListN.{length, getD, set, replicate, length-set, List·getD-map}
 use lib.Seq.{getD-set-same, getD-set-other, length-sets, sets}
-use Rattle.params.specs.declared.Row.{Row}
+use Rattle.params.specs.declared.ParamRow.{ParamRow}
 use Rattle.params.specs.declared.Params.{Params}
 use Rattle.params.specs.declared.Reading.{Reading}
 use Rattle.params.specs.declared.Reading.the-variants.{Held, Unknown}
@@ -71,7 +71,7 @@ said-once (Held v) (Held w) e = cc
 -- ---- sound
 
 -- as many values as rows
-rows-length : (rs : List Row) (vs : List ℤ) → inRows rs vs ≡ true → length vs ≡ length rs
+rows-length : (rs : List ParamRow) (vs : List ℤ) → inRows rs vs ≡ true → length vs ≡ length rs
 unfolding inRows
 rows-length [] [] h = refl
 rows-length [] (v ∷ vs) h = absurd (false≢true h)
@@ -79,7 +79,7 @@ rows-length (r ∷ rs) [] h = absurd (false≢true h)
 rows-length (r ∷ rs) (v ∷ vs) h = ap suc (rows-length rs vs (and-eq-true-iff (inRow r v) (inRows rs vs) .0 h .1))
 
 -- each of them in its row
-rows-each : (rs : List Row) (vs : List ℤ) (k : ℕ) → k < length rs → inRows rs vs ≡ true → inRow (getD rs k noParamRow) (getD vs k (pos 0)) ≡ true
+rows-each : (rs : List ParamRow) (vs : List ℤ) (k : ℕ) → k < length rs → inRows rs vs ≡ true → inRow (getD rs k noParamRow) (getD vs k (pos 0)) ≡ true
 unfolding inRows
 rows-each [] vs k l h = absurd (not-suc-le-zero l)
 rows-each (r ∷ rs) [] k l h = absurd (false≢true h)
@@ -87,7 +87,7 @@ rows-each (r ∷ rs) (v ∷ vs) zero l h = and-eq-true-iff (inRow r v) (inRows r
 rows-each (r ∷ rs) (v ∷ vs) (suc k) l h = rows-each rs vs k (le-of-suc-le-suc l) (and-eq-true-iff (inRow r v) (inRows rs vs) .0 h .1)
 
 -- a store of a value that is in its row leaves each in its row
-rows-kept : (rs : List Row) (vs : List ℤ) (k : ℕ) (v : ℤ) → inRow (getD rs k noParamRow) v ≡ true → inRows rs vs ≡ true → inRows rs (set vs k v) ≡ true
+rows-kept : (rs : List ParamRow) (vs : List ℤ) (k : ℕ) (v : ℤ) → inRow (getD rs k noParamRow) v ≡ true → inRows rs vs ≡ true → inRows rs (set vs k v) ≡ true
 unfolding inRows
 rows-kept [] [] k v f h = refl
 rows-kept [] (x ∷ vs) k v f h = absurd (false≢true h)
@@ -125,7 +125,7 @@ start-sound = refl
 -- at the starts an id reads as its row's start
 pub start-held : (id : ℕ) → isId id ≡ true → valueRead startParams id ≡ inr (paramRow id .start)
 unfolding startParams
-start-held id e = id-held startParams id e ∙ ap inr (List·getD-map (λ (r : Row). r .start) paramRows (id - 1) noParamRow)
+start-held id e = id-held startParams id e ∙ ap inr (List·getD-map (λ (r : ParamRow). r .start) paramRows (id - 1) noParamRow)
 
 -- at the starts there is a mark for each id, and none is set
 pub start-marks : startParams .written ≡ replicate 12 false

@@ -4,10 +4,10 @@ use mathlib.Core.List.{List, [], _∷_}
 use mathlib.Core.Bool.{Bool, true, false}
 use lib.IntN.{ℤ, pos, negℤ}
 use lib.ListN.{getD}
-use Rattle.params.specs.declared.Row.{Row}
+use Rattle.params.specs.declared.ParamRow.{ParamRow}
 
 -- a row by its columns
-abbrev pub paramLine : ℤ → ℤ → ℤ → Bool → Row
+abbrev pub paramLine : ℤ → ℤ → ℤ → Bool → ParamRow
 paramLine l m s a = record { least = l; most = m; start = s; asked = a }
 
 -- a number below 0
@@ -15,11 +15,11 @@ abbrev pub minus : ℕ → ℤ
 minus n = negℤ (pos n)
 
 -- the row of each trim
-abbrev pub trim : Row
+abbrev pub trim : ParamRow
 trim = paramLine (minus 500) (pos 500) (pos 0) false
 
 -- least, most, start, asked, by id
-abbrev pub paramRows : List Row
+abbrev pub paramRows : List ParamRow
 paramRows =
     paramLine (minus 4000) (pos 15000) (minus 2000) true  -- 1: span low, 0.01 C
     ∷ paramLine (minus 4000) (pos 15000) (pos 12000) true  -- 2: span high, 0.01 C
@@ -40,9 +40,9 @@ abbrev pub paramIds : List ℕ
 paramIds = 1 ∷ 2 ∷ 3 ∷ 4 ∷ 5 ∷ 6 ∷ 7 ∷ 8 ∷ 9 ∷ 10 ∷ 11 ∷ 12 ∷ []
 
 -- what stands past the table's end, where nothing reads
-abbrev pub noParamRow : Row
+abbrev pub noParamRow : ParamRow
 noParamRow = paramLine (pos 0) (pos 0) (pos 0) false
 
 -- the row of an id
-abbrev pub paramRow : ℕ → Row
+abbrev pub paramRow : ℕ → ParamRow
 paramRow id = getD paramRows (id - 1) noParamRow

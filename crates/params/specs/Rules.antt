@@ -8,7 +8,7 @@ use lib.Signed.{ltZ, leZ}
 use lib.Dec.{leb}
 use lib.ListN.{getD, set, replicate}
 use lib.Seq.{sets}
-use Rattle.params.specs.declared.Row.{Row}
+use Rattle.params.specs.declared.ParamRow.{ParamRow}
 use Rattle.params.specs.declared.Params.{Params}
 use Rattle.params.specs.declared.Wrote.{Wrote}
 use Rattle.params.specs.declared.Reading.{Reading}
@@ -28,7 +28,7 @@ abbrev pub marked : Params → ℕ → Bool
 marked p id = getD (p .written) (id - 1) false
 
 -- a value from its row's least to its most
-abbrev pub inRow : Row → ℤ → Bool
+abbrev pub inRow : ParamRow → ℤ → Bool
 inRow r v = leZ (r .least) v && leZ v (r .most)
 
 -- "parameter 1 below parameter 2"
@@ -36,7 +36,7 @@ abbrev pub inSpan : Params → Bool
 inSpan p = ltZ (valueAt p 1) (valueAt p 2)
 
 -- each value in its row, and as many values as rows
-unfoldable pub inRows : List Row → List ℤ → Bool
+unfoldable pub inRows : List ParamRow → List ℤ → Bool
 inRows [] [] = true
 inRows [] (v ∷ vs) = false
 inRows (r ∷ rs) [] = false
@@ -48,7 +48,7 @@ soundParams p = inRows paramRows (p .values) && inSpan p
 
 -- "parameters .. at their starts", "nothing marked written"
 unfoldable pub startParams : Params
-startParams = record { values = map (λ (r : Row). r .start) paramRows; written = replicate 12 false }
+startParams = record { values = map (λ (r : ParamRow). r .start) paramRows; written = replicate 12 false }
 
 -- the state with a value stored and marked
 abbrev pub stored : Params → ℕ → ℤ → Params

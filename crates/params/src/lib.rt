@@ -5,7 +5,7 @@ ghost use lib.ListN.{getD};
 ghost use Rattle.params.specs.Rows.{paramRows, noParamRow};
 ghost use Rattle.params.specs.Rules.{inRow, inSpan, startParams, writeOf, valueRead, readingSaid, missingOf, soundParams};
 
-pub struct Row {
+pub struct ParamRow {
     pub least: i32,
     pub most: i32,
     pub start: i32,
@@ -30,7 +30,7 @@ pub enum Reading {
     Unknown,
 }
 
-const TRIM: Row = Row {
+const TRIM: ParamRow = ParamRow {
     least: -500,
     most: 500,
     start: 0,
@@ -38,58 +38,58 @@ const TRIM: Row = Row {
 };
 
 // The rows by id.
-const ROWS: [Row; 12] = [
+const ROWS: [ParamRow; 12] = [
     // 1: span low, 0.01 C
-    Row {
+    ParamRow {
         least: -4000,
         most: 15000,
         start: -2000,
         asked: true,
     },
     // 2: span high, 0.01 C
-    Row {
+    ParamRow {
         least: -4000,
         most: 15000,
         start: 12000,
         asked: true,
     },
     // 3: emissivity, thousandths
-    Row {
+    ParamRow {
         least: 100,
         most: 1000,
         start: 950,
         asked: true,
     },
     // 4: frame interval, ms
-    Row {
+    ParamRow {
         least: 40,
         most: 60000,
         start: 1000,
         asked: false,
     },
     // 5: passes
-    Row {
+    ParamRow {
         least: 1,
         most: 16,
         start: 16,
         asked: false,
     },
     // 6: reflected, 0.01 C
-    Row {
+    ParamRow {
         least: -4000,
         most: 15000,
         start: 2000,
         asked: true,
     },
     // 7: lens
-    Row {
+    ParamRow {
         least: 0,
         most: 3,
         start: 0,
         asked: true,
     },
     // 8: palette
-    Row {
+    ParamRow {
         least: 0,
         most: 7,
         start: 0,
@@ -103,7 +103,7 @@ const ROWS: [Row; 12] = [
 ];
 
 // The row of the id i + 1.
-fn row_at(i: usize) -> Row
+fn row_at(i: usize) -> ParamRow
     requires { ⌜ i < 12 ⌝ }
     ensures { λ r. ⌜ r ≡ getD paramRows i noParamRow ⌝ }
 {
@@ -111,7 +111,7 @@ fn row_at(i: usize) -> Row
 }
 
 // Whether a value is in a row.
-fn in_row(r: Row, v: i32) -> bool
+fn in_row(r: ParamRow, v: i32) -> bool
     ensures { λ b. ⌜ b ≡ inRow r v ⌝ }
 {
     (r.least <= v) & (v <= r.most)

@@ -11,7 +11,7 @@ use mir.Val.{toZ, ofZ}
 use borrow.Author.Needs.{needs}
 use native.Mathlib.Omega.{arith}
 use native.Mathlib.Numerals.{add-one}
-use Rattle.params.specs.declared.Row.{Row}
+use Rattle.params.specs.declared.ParamRow.{ParamRow}
 use Rattle.params.specs.Rows.{paramRows, noParamRow}
 use Rattle.params.specs.Rules.{startParams}
 use Rattle.params.proofs.start.Statement.{statement}
@@ -20,7 +20,7 @@ use Rattle.params.proofs.start.Tie as tie
 -- what is left of the starts begins with the next row's
 next : (i : ℕ) → i < 12 → drop i (startParams .values) ≡ getD paramRows i noParamRow .start ∷ drop (suc i) (startParams .values)
 unfolding startParams
-next i h = rw (drop-cons (startParams .values) i (pos 0) h, List·getD-map (λ (r : Row). r .start) paramRows i noParamRow)
+next i h = rw (drop-cons (startParams .values) i (pos 0) h, List·getD-map (λ (r : ParamRow). r .start) paramRows i noParamRow)
 
 abbrev Inv-loop : tie.InvT-loop
 Inv-loop table values₀ i₀ values i = (table ≡ paramRows) × (i ≤ 12) × (sets values i (drop i (startParams .values)) ≡ startParams .values)
