@@ -12,3 +12,4 @@ pub mod Pairs
 pub mod Demands
 pub mod Shown
 pub mod Computed
+pub mod Whole

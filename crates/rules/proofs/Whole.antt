@@ -1,0 +1,55 @@
+-- All that the owner asked for holds.
+-- Assumes nothing.
+use Rattle.rules.specs.Whole.{Whole}
+use Rattle.rules.proofs.Answered.{always-answered, lowest-first, refused-unchanged}
+use Rattle.rules.proofs.Sound.{kept-sound}
+use Rattle.rules.proofs.LoadWhole.{load-whole}
+use Rattle.rules.proofs.LoadCut.{load-cut}
+use Rattle.rules.proofs.ReadWhole.{read-whole, read-ends, read-moves}
+use Rattle.rules.proofs.TablesOnly.{tables-only}
+use Rattle.rules.proofs.MessageError.{message-error, error-is-history, status-word-shows}
+use Rattle.rules.proofs.Checked.{packet-answered, opens-exactly, damage, error-unchanged}
+use Rattle.rules.proofs.Blocks.{blocks-are-history}
+use Rattle.rules.proofs.Shows.{receive-is-history, status-is-history, read-is-written}
+use Rattle.rules.proofs.Flow.{pipe-is-history}
+use Rattle.rules.proofs.Frames.{frames-are-history}
+use Rattle.rules.proofs.NoTrace.{no-trace, as-from-power, no-trace-past}
+use Rattle.rules.proofs.Asleep.{answer-alike, asleep-from-power, asleep-from-shutdown}
+use Rattle.rules.proofs.Shown.{all-shown, all-computed, conversed}
+
+pub whole : Whole
+whole =
+    record {
+      always-answered = always-answered;
+      lowest-first = lowest-first;
+      refused-unchanged = refused-unchanged;
+      kept-sound = kept-sound;
+      load-whole = load-whole;
+      load-cut = load-cut;
+      read-whole = read-whole;
+      read-ends = read-ends;
+      read-moves = read-moves;
+      tables-only = tables-only;
+      message-error = message-error;
+      error-is-history = error-is-history;
+      status-word-shows = status-word-shows;
+      packet-answered = packet-answered;
+      opens-exactly = opens-exactly;
+      damage = damage;
+      error-unchanged = error-unchanged;
+      blocks-are-history = blocks-are-history;
+      receive-is-history = receive-is-history;
+      status-is-history = status-is-history;
+      read-is-written = read-is-written;
+      pipe-is-history = pipe-is-history;
+      frames-are-history = frames-are-history;
+      no-trace = no-trace;
+      as-from-power = as-from-power;
+      no-trace-past = no-trace-past;
+      answer-alike = answer-alike;
+      asleep-from-power = asleep-from-power;
+      asleep-from-shutdown = asleep-from-shutdown;
+      shown = all-shown;
+      computed = all-computed;
+      conversation = conversed;
+    }

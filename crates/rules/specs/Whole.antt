@@ -1,0 +1,43 @@
+-- All that the owner asked for, in one record: proofs/Whole.antt has its one value.
+-- Assumes nothing.
+use Rattle.rules.specs.Demands.{AlwaysAnswered, LowestFirst, RefusedUnchanged, KeptSound, LoadWhole, LoadCut, ReadWhole, ReadEnds, ReadMoves, TablesOnly, MessageError, ErrorIsHistory, StatusWordShows, PacketAnswered, OpensExactly, Damage, ErrorUnchanged, BlocksAreHistory, ReceiveIsHistory, StatusIsHistory, ReadIsWritten, PipeIsHistory, FramesAreHistory, NoTrace, AsFromPower, NoTracePast, AnswerAlike, AsleepFromPower, AsleepFromShutdown}
+use Rattle.rules.specs.Shown.{Shown}
+use Rattle.rules.specs.Computed.{Computed, Conversation}
+
+pub record Whole : Type 0 where
+  -- 1. each call is answered, or refused by a number, and a refused call changes nothing
+  pub always-answered : AlwaysAnswered
+  pub lowest-first : LowestFirst
+  pub refused-unchanged : RefusedUnchanged
+  pub kept-sound : KeptSound
+  -- 2. answers, tables, blocks and frames are exactly the papers'
+  pub load-whole : LoadWhole
+  pub load-cut : LoadCut
+  pub read-whole : ReadWhole
+  pub read-ends : ReadEnds
+  pub read-moves : ReadMoves
+  pub tables-only : TablesOnly
+  pub message-error : MessageError
+  pub error-is-history : ErrorIsHistory
+  pub status-word-shows : StatusWordShows
+  pub packet-answered : PacketAnswered
+  pub opens-exactly : OpensExactly
+  pub damage : Damage
+  pub error-unchanged : ErrorUnchanged
+  pub blocks-are-history : BlocksAreHistory
+  pub receive-is-history : ReceiveIsHistory
+  pub status-is-history : StatusIsHistory
+  pub read-is-written : ReadIsWritten
+  pub pipe-is-history : PipeIsHistory
+  pub frames-are-history : FramesAreHistory
+  -- 3. nothing of the past shows after an accepted Initialise, and nothing of parameters, tables and blocks while asleep
+  pub no-trace : NoTrace
+  pub as-from-power : AsFromPower
+  pub no-trace-past : NoTracePast
+  pub answer-alike : AnswerAlike
+  pub asleep-from-power : AsleepFromPower
+  pub asleep-from-shutdown : AsleepFromShutdown
+  -- document 01's examples, and what stands beside a statement that judges by a rule's own test
+  pub shown : Shown
+  pub computed : Computed
+  pub conversation : Conversation
