@@ -12,15 +12,16 @@ use Rattle.blocks.proofs.Laws.{none-waiting, drop-takes, put-appends}
 use Rattle.rules.specs.declared.Exchange.{Exchange}
 use Rattle.rules.specs.declared.Pod.{Pod}
 use Rattle.rules.specs.State.{Lent, ringOf, storeIn, freshPod}
+use Rattle.rules.specs.Obey.{initialisedPod, doneBy, dropFrom}
 use Rattle.rules.specs.World.{World, put, rowsOf, powered}
 use Rattle.rules.specs.History.{Event, acknowledges, sameStore, Waiting, nothingWaits, blocksBy, waitingBy}
 use Rattle.rules.specs.Demands.{BlocksAreHistory}
 use Rattle.rules.proofs.Happens.{putting}
-use Rattle.rules.proofs.Eventful.{Eventful, quiet, anew, slept, updated, wrote, began, closed, acknowledged, shelved, spoken, moved}
+use Rattle.rules.proofs.Eventful.{Eventful, quiet, anew, initialised, slept, updated, wrote, began, closed, acknowledged, shelved, spoken, moved}
 use Rattle.rules.proofs.Histories.{Keeps, history, powered-fresh}
 use Rattle.rules.proofs.Stores.{of-both, of-changed, same-is}
 use Rattle.rules.proofs.Inside.{pod-in, ring-in}
-use Rattle.rules.proofs.Sound.{PutFits, put-fits}
+use Rattle.rules.proofs.Fits.{PutFits, put-fits}
 use Rattle.rules.proofs.Settling.{Settles, keeps, drops, settles}
 use Rattle.rules.proofs.Holds.{Opened, exchange-kept, fresh-opened}
 
@@ -49,18 +50,19 @@ blocks-put s r b w k =
 -- an acknowledgement takes the first away of the store that it acknowledges
 blocks-settled : (s : Store) {p q : Pod} {first : ℕ} {one : Bool} {x : Exchange} → Settles p first one x q → (l : List ℕ)
     → blocksIn (capacityOf s) (ringOf s q) l ≡ blocksBy s (acknowledges first one) x (blocksIn (capacityOf s) (ringOf s p) l)
-unfolding blocksBy
+unfolding blocksBy dropFrom
 blocks-settled s (keeps h) l = rw (h s)
-blocks-settled s {p} (drops r h) l =
-    rw (h s, of-changed (λ t. droppedRing (capacityOf t) (ringOf t p)) s r (p .priority) (p .ordinary))
+blocks-settled s {p} (drops r a b h) l =
+    rw (a, b, h s, of-changed (λ t. droppedRing (capacityOf t) (ringOf t p)) s r (p .priority) (p .ordinary))
     (split (sameStore s r) (λ e. rw e (drop-takes (capacityOf s) (ringOf s p) l)) (λ e. rw e))
 
 module _ (s : Store) where
   blocks-kept : (w v : World) (e : Event) → Eventful w e v → (x : Exchange) (q : List (List ℕ)) → Opened w x → waitingIn s w ≡ q
       → waitingIn s v ≡ blocksBy s e x q
-  unfolding blocksBy
+  unfolding blocksBy doneBy initialisedPod
   blocks-kept w _ _ quiet x q o h = h
-  blocks-kept w _ _ (anew b f) x q o h = none-wait s (w .lent)
+  blocks-kept w _ _ anew x q o h = none-wait s (w .lent)
+  blocks-kept w _ _ (initialised f) x q o h = none-wait s (w .lent)
   blocks-kept w _ _ (slept on) x q o h = h
   blocks-kept w _ _ (updated f) x q o h = h
   blocks-kept w _ _ (wrote id v k) x q o h = h

@@ -17,15 +17,13 @@ use Rattle.packets.specs.declared.Command.{Command}
 use Rattle.packets.specs.declared.Command.the-variants.{Initialise, Status, Update, Write, Read, Priority, Data, Shutdown}
 use Rattle.packets.specs.declared.Fields.{Fields}
 use Rattle.packets.specs.Commands.{commandRow}
-use Rattle.params.specs.Rules.{writeAllowed, stored}
-use Rattle.tables.specs.Tables.{starts}
-use Rattle.tables.specs.Port.{closeOf}
+use Rattle.params.specs.Rules.{writeAllowed}
 use Rattle.pipe.specs.Input.{sentBytes}
 use Rattle.rules.specs.declared.Pod.{Pod}
 use Rattle.rules.specs.declared.Exchange.{Exchange}
 use Rattle.rules.specs.declared.Exchange.the-variants as exchange
-use Rattle.rules.specs.State.{ofStore, remainingOf, freshPod, freshFields, soundPod, withInitialised, withFields, withParams, withExchange, withWords, withTables}
-use Rattle.rules.specs.Obey.{initialisedPod, shut, checksOf, doneBy, acknowledgedOf}
+use Rattle.rules.specs.State.{ofStore, remainingOf, freshFields, soundPod, withExchange}
+use Rattle.rules.specs.Obey.{shut, checksOf, doneBy, acknowledgedOf}
 use Rattle.rules.specs.Families.{WordCall, PipeCall, pipeOf}
 use Rattle.rules.specs.Calls.{replyBytes, spokenBytes, answered}
 use Rattle.rules.specs.World.{World, world, Call, packet, put, word, pipe, Stepped, rowsOf}
@@ -43,14 +41,18 @@ WaitsIn (exchange.Receive s) a b f = (eqb (ofStore s a b .waiting) 0 ≡ false) 
 abbrev pub Waits : Exchange → Pod → Type 0
 Waits x p = WaitsIn x (p .priority) (p .ordinary) (p .fields)
 
+-- the world after a command that passes its checks, by its definition
+abbrev pub obeyedIn : Command → World → World
+obeyedIn c w = let o = doneBy c (w .lent) (shut (w .pod)) in world (o .pod) (o .lent)
+
 pub data Eventful (w : World) : Event → World → Type 0 where
   quiet : Eventful w nothing w
-  anew : (b : Bool) (f : Fields) → Eventful w (begins b f) (world (withFields f (withInitialised b freshPod)) (withTables starts (w .lent)))
-  slept : w .pod .initialised ≡ true
-      → Eventful w sleeps (world (withInitialised false (withWords (closeOf (w .pod .words)) (shut (w .pod)))) (w .lent))
-  updated : (f : Fields) → Eventful w (updates f) (world (withFields f (shut (w .pod))) (w .lent))
-  wrote : (id : ℕ) (v : ℤ) → writeAllowed (w .pod .params) id v ≡ true
-      → Eventful w (writes id v) (world (withParams (stored (w .pod .params) id v) (shut (w .pod))) (w .lent))
+  anew : Eventful w (begins false freshFields) (powering w .world)
+  initialised : (f : Fields) → Eventful w (begins true f) (obeyedIn (Initialise f) w)
+  slept : w .pod .initialised ≡ true → Eventful w sleeps (obeyedIn Shutdown w)
+  updated : (f : Fields) → Eventful w (updates f) (obeyedIn (Update f) w)
+  wrote : (id : ℕ) (v : ℤ) → writeAllowed (w .pod .params) id v ≡ true → Eventful w (writes id v) (obeyedIn (Write id v) w)
+  -- a type 2 command: nothing else changes
   began : (x : Exchange) → w .pod .initialised ≡ true → Waits x (w .pod) → Eventful w (opens x) (world (withExchange x (w .pod)) (w .lent))
   closed : Eventful w closes (world (shut (w .pod)) (w .lent))
   acknowledged : (first : ℕ) (one : Bool) → soundPod (w .pod) ≡ true
@@ -67,8 +69,8 @@ sound-at w b room k = not-false (clear-head (clear-rest (clear-rest k)))
 -- a command answered without error
 module _ (w : World) (room : List ℕ) (wide : 260 ≤ length room) where
   obeyed : (c : Command) → Clear (checksOf c (w .pod)) → Eventful w (obeyedAs c) (obeying c room w .world)
-  unfolding checksOf doneBy answered initialisedPod
-  obeyed (Initialise f) q = anew true f
+  unfolding checksOf doneBy answered
+  obeyed (Initialise f) q = initialised f
   obeyed Status (past a none) = began exchange.Status (not-false a) tt
   obeyed (Update f) q = updated f
   obeyed (Write id v) (past a (past b none)) = wrote id v (not-false b)
@@ -82,14 +84,10 @@ module _ (w : World) (room : List ℕ) (wide : 260 ≤ length room) where
   unfolding answered spokenBytes replyBytes
   command-succeeds c = one-succeeds room (commandRow c .code) _ wide
 
-power-anew : (w : World) → Eventful w (begins false freshFields) (powering w .world)
-unfolding freshPod
-power-anew w = anew false freshFields
-
 pub eventful : {w : World} {c : Call} {s : Stepped} → Happens w c s → Eventful w (eventOf c (s .told)) (s .world)
 unfolding eventOf
 eventful (by-rows c n f) = quiet
-eventful {w} (by-power k) = power-anew w
+eventful (by-power k) = anew
 eventful {w} (by-empty b room k e) = rw e quiet
 eventful {w} (by-damage b room first n k e) = rw e closed
 eventful {w} (by-acknowledgement b room first one k e) = rw e (acknowledged first one (sound-at w b room k))

@@ -13,11 +13,12 @@ use Rattle.pipe.specs.Pipe.{freshPipe}
 use Rattle.pipe.proofs.Cases.{byte-cases, timeout-cases}
 use Rattle.pipe.proofs.Held.{Whole, length-held, held-gathers, held-empty, listed, whole-empty, whole-gathers}
 use Rattle.rules.specs.State.{Lent, freshPod}
+use Rattle.rules.specs.Obey.{initialisedPod, doneBy}
 use Rattle.rules.specs.Families.{PipeCall, byte, timeout, pipeOf}
 use Rattle.rules.specs.World.{Call, final, powered}
 use Rattle.rules.specs.History.{Flow, noFlow, flowAfter, flowBy, sentBy, events, fold}
 use Rattle.rules.specs.Demands.{Flows, PipeIsHistory}
-use Rattle.rules.proofs.Eventful.{quiet, anew, slept, updated, wrote, began, closed, acknowledged, shelved, spoken, moved}
+use Rattle.rules.proofs.Eventful.{quiet, anew, initialised, slept, updated, wrote, began, closed, acknowledged, shelved, spoken, moved}
 use Rattle.rules.proofs.Histories.{Keeps, history, both, fold-both, powered-fresh}
 use Rattle.rules.proofs.Untouched.{acknowledged-untouched}
 
@@ -93,9 +94,10 @@ pipe-flows timeout p s f x = timeout-flows (p .input) s f x
 -- ---- over every run of calls
 
 flow-kept : Keeps (both sentBy flowBy) (λ w a. Flowing (w .pod .pipe .input) (a .0) (a .1))
-unfolding sentBy flowBy freshPod
+unfolding sentBy flowBy doneBy initialisedPod freshPod
 flow-kept w _ _ quiet a x = x
-flow-kept w _ _ (anew b f) a x = flow-begun
+flow-kept w _ _ anew a x = flow-begun
+flow-kept w _ _ (initialised f) a x = flow-begun
 flow-kept w _ _ (slept e) a x = x
 flow-kept w _ _ (updated f) a x = x
 flow-kept w _ _ (wrote id v e) a x = x

@@ -18,11 +18,11 @@ use Rattle.rules.specs.declared.Exchange.{Exchange}
 use Rattle.rules.specs.declared.Exchange.the-variants.{Closed, Status, Read, Receive}
 use Rattle.rules.specs.declared.Pod.{Pod}
 use Rattle.rules.specs.State.{Lent, withRing, withRemaining, ringOf, remainingOf, freshPod}
-use Rattle.rules.specs.Obey.{acknowledgedOf}
+use Rattle.rules.specs.Obey.{initialisedPod, doneBy, dropFrom, acknowledgedOf}
 use Rattle.rules.specs.World.{World, Call, final, powered}
 use Rattle.rules.specs.History.{Event, acknowledges, events, fold, awakeBy, exchangeBy, sameStore, acknowledged as acknowledgedBy, lessBy, fieldsBy, Fielded, freshFielded, fieldedBy}
 use Rattle.rules.specs.Replies.{awakeFrom}
-use Rattle.rules.proofs.Eventful.{Eventful, quiet, anew, slept, updated, wrote, began, closed, acknowledged, shelved, spoken, moved, Waits}
+use Rattle.rules.proofs.Eventful.{Eventful, quiet, anew, initialised, slept, updated, wrote, began, closed, acknowledged, shelved, spoken, moved, Waits}
 use Rattle.rules.proofs.Histories.{Keeps, history, powered-fresh}
 use Rattle.rules.proofs.Untouched.{acknowledged-untouched}
 use Rattle.rules.proofs.Stores.{of-changed}
@@ -31,9 +31,10 @@ use Rattle.rules.proofs.Settling.{Settles, keeps, drops, settles}
 -- ---- awake
 
 awake-kept : Keeps awakeBy (λ w b. w .pod .initialised ≡ b)
-unfolding awakeBy
+unfolding awakeBy doneBy initialisedPod freshPod
 awake-kept w _ _ quiet b h = h
-awake-kept w _ _ (anew a f) b h = refl
+awake-kept w _ _ anew b h = refl
+awake-kept w _ _ (initialised f) b h = refl
 awake-kept w _ _ (slept on) b h = refl
 awake-kept w _ _ (updated f) b h = h
 awake-kept w _ _ (wrote id v k) b h = h
@@ -67,9 +68,10 @@ more-waits (Receive r) s p h = (
 )
 
 pub exchange-kept : Keeps exchangeBy Opened
-unfolding exchangeBy acknowledgedOf freshPod
+unfolding exchangeBy acknowledgedOf doneBy initialisedPod freshPod
 exchange-kept w _ _ quiet x h = h
-exchange-kept w _ _ (anew a f) x h = record { exchange = refl; waits = tt }
+exchange-kept w _ _ anew x h = record { exchange = refl; waits = tt }
+exchange-kept w _ _ (initialised f) x h = record { exchange = refl; waits = tt }
 exchange-kept w _ _ (slept on) x h = record { exchange = refl; waits = tt }
 exchange-kept w _ _ (updated f) x h = record { exchange = refl; waits = tt }
 exchange-kept w _ _ (wrote id v k) x h = record { exchange = refl; waits = tt }
@@ -99,14 +101,15 @@ none-less first one x f h = rw (h Priority, h Ordinary)
 
 settled-fields : {p q : Pod} {first : ℕ} {one : Bool} {x : Exchange} → Settles p first one x q
     → q .fields ≡ fieldsBy (acknowledges first one) x (p .fields)
-unfolding fieldsBy
+unfolding fieldsBy dropFrom
 settled-fields {p} {q} {first} {one} {x} (keeps h) = none-less first one x (p .fields) h
-settled-fields {p} {q} {first} {one} {x} (drops s h) = less-one s first one x (p .fields) h
+settled-fields {p} {q} {first} {one} {x} (drops s a b h) = rw (a, b) (less-one s first one x (p .fields) h)
 
 fields-kept : (w v : World) (e : Event) → Eventful w e v → (x : Exchange) (f : Fields) → Opened w x → w .pod .fields ≡ f → v .pod .fields ≡ fieldsBy e x f
-unfolding fieldsBy
+unfolding fieldsBy doneBy initialisedPod freshPod
 fields-kept w _ _ quiet x f o h = h
-fields-kept w _ _ (anew a g) x f o h = refl
+fields-kept w _ _ anew x f o h = refl
+fields-kept w _ _ (initialised g) x f o h = refl
 fields-kept w _ _ (slept on) x f o h = h
 fields-kept w _ _ (updated g) x f o h = refl
 fields-kept w _ _ (wrote id v k) x f o h = h

@@ -9,13 +9,14 @@ pub mod Frames
 pub mod TablesOnly
 pub mod MessageError
 pub mod Inside
-pub mod Sound
+pub mod Fits
 pub mod Settling
 pub mod Holds
 pub mod Written
 pub mod Blocks
 pub mod Replied
 pub mod Shows
+pub mod Sound
 pub mod Answered
 pub mod Checked
 pub mod WordsAlike

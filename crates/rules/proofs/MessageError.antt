@@ -19,6 +19,7 @@ use Rattle.tables.specs.Command.{orderHeard}
 use Rattle.tables.specs.Port.{Desk, Tabled, tabled, fits, beginsAt, isOpen, startWords, closeOf, wrongWay, readOpenedAt, readOpened, restarted, orderObeyed, commandOf, loadRight, loadJudged, loadOf, wordTaken, dataInOf, wordGiven, dataOutOf, statusOf}
 use Rattle.rules.specs.declared.Pod.{Pod}
 use Rattle.rules.specs.State.{freshPod, deskIn}
+use Rattle.rules.specs.Obey.{initialisedPod, doneBy}
 use Rattle.rules.specs.Families.{WordCall, command, dataIn, dataOut, status, wordOf}
 use Rattle.rules.specs.Refusals.{reads}
 use Rattle.rules.specs.World.{World, Call, word, Stepped, isRefused, told, next, final, powered}
@@ -26,7 +27,7 @@ use Rattle.rules.specs.History.{Event}
 use Rattle.rules.specs.Transfers.{notTaken, errsIn, errsOut, wordErrs, errorBy, errorFrom}
 use Rattle.rules.specs.Demands.{MessageError, ErrorIsHistory, StatusWordShows}
 use Rattle.rules.proofs.Happens.{Happens, by-rows, by-word, happens}
-use Rattle.rules.proofs.Eventful.{Eventful, quiet, anew, slept, updated, wrote, began, closed, acknowledged, shelved, spoken, moved, eventful}
+use Rattle.rules.proofs.Eventful.{Eventful, quiet, anew, initialised, slept, updated, wrote, began, closed, acknowledged, shelved, spoken, moved, eventful}
 use Rattle.rules.proofs.Histories.{powered-fresh}
 use Rattle.rules.proofs.Untouched.{acknowledged-untouched}
 
@@ -89,9 +90,10 @@ word-errs status on w d = refl
 
 event-errs : (w v : World) (e : Event) → Eventful w e v
     → v .pod .words .error ≡ errorBy e (w .pod .initialised) (w .pod .words) (w .lent .load) (w .pod .words .error)
-unfolding errorBy freshPod startWords closeOf
+unfolding errorBy doneBy initialisedPod freshPod startWords closeOf
 event-errs w _ _ quiet = refl
-event-errs w _ _ (anew b f) = refl
+event-errs w _ _ anew = refl
+event-errs w _ _ (initialised f) = refl
 event-errs w _ _ (slept a) = refl
 event-errs w _ _ (updated f) = refl
 event-errs w _ _ (wrote id v k) = refl

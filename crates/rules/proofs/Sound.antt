@@ -1,19 +1,17 @@
 -- Demand 1: no call leaves the bounds: each command, word and pipe call, then what happens at any call, then every history.
 -- Assumes nothing.
-use Prim.Native.Nat.{ℕ, _-_, _*_, _<_}
+use Prim.Native.Nat.{ℕ, _-_}
 use native.Mathlib.Omega.{arith}
 use mathlib.Core.Path.{_≡_, refl, ap, _∙_}
 use mathlib.Core.Bool.{Bool, true, _||_}
 use mathlib.Core.List.{List, [], _∷_}
 use lib.Dec.{eqb}
 use lib.IntN.{ℤ}
-use lib.ListN.{length}
-use borrow.Author.Tests.{leb-false, eqb-true}
 use Rattle.rows.specs.Rows.{Clear, none, past}
 use Rattle.rows.proofs.Bool.{by-test, not-false}
 use Rattle.blocks.specs.declared.Store.{Store}
 use Rattle.blocks.specs.declared.Store.the-variants.{Priority, Ordinary}
-use Rattle.blocks.specs.Stores.{capacityOf, storeSized}
+use Rattle.blocks.specs.Stores.{capacityOf}
 use Rattle.blocks.proofs.Laws.{put-sound, drop-sound}
 use Rattle.packets.specs.declared.Fields.{Fields}
 use Rattle.packets.specs.declared.Command.{Command}
@@ -35,13 +33,14 @@ use Rattle.pipe.proofs.Laws.{byte-sound, timeout-sound}
 use Rattle.rules.specs.declared.Exchange.{Exchange}
 use Rattle.rules.specs.declared.Exchange.the-variants.{Closed, Status, Read, Receive}
 use Rattle.rules.specs.declared.Pod.{Pod}
-use Rattle.rules.specs.State.{Lent, storeIn, deskIn, withWords, withRemaining, ringOf, remainingOf, freshPod, soundPod}
+use Rattle.rules.specs.State.{Lent, deskIn, withWords, withRemaining, ringOf, remainingOf, freshPod, soundPod}
 use Rattle.rules.specs.Obey.{shut, checksOf, doneBy, initialisedPod, matches, dropFrom, settled, acknowledgedOf}
 use Rattle.rules.specs.Families.{WordCall, command as commands, dataIn, dataOut, status, wordOf, PipeCall, byte, timeout, pipeOf}
 use Rattle.rules.specs.Calls.{answered}
-use Rattle.rules.specs.World.{World, world, Call, power, put, Stepped, rowsOf, next, final, powered}
+use Rattle.rules.specs.World.{World, world, Call, power, Stepped, next, final, powered}
 use Rattle.rules.specs.Demands.{KeptSound}
 use Rattle.rules.proofs.Happens.{Happens, by-rows, by-power, by-empty, by-damage, by-acknowledgement, by-check, by-command, by-deadline, by-put, by-word, by-pipe, by-samples, checks-shut, happens}
+use Rattle.rules.proofs.Fits.{put-fits}
 use Rattle.rules.proofs.Inside.{PodIn, in-pod, pod-in, ring-in, off-still, in-shut, in-open, in-fields, in-params, in-ring, in-pipe, in-words, in-sleep, anew-in, fresh-in}
 
 -- ---- the commands
@@ -116,23 +115,6 @@ pipe-sound (byte b) i h = byte-sound (i .input) b h
 pipe-sound timeout i h = timeout-sound (i .input) h
 
 -- ---- every call
-
--- a put that is not refused: a whole store and block, a sound pod, and room
-pub record PutFits (s : Store) (b : List ℕ) (w : World) : Type 0 where
-  pub store : length (storeIn s (w .lent)) ≡ capacityOf s * 256
-  pub sound : soundPod (w .pod) ≡ true
-  pub block : length b ≡ 256
-  pub free : ringOf s (w .pod) .waiting < capacityOf s
-
-pub put-fits : (s : Store) (b : List ℕ) (w : World) → Clear (rowsOf w (put s b)) → PutFits s b w
-unfolding rowsOf storeSized
-put-fits s b w (past size (past ok (past long (past on (past room none))))) =
-    record {
-      store = eqb-true _ _ (not-false size);
-      sound = not-false ok;
-      block = eqb-true _ _ (not-false long);
-      free = leb-false _ _ room;
-    }
 
 pub step-in : {w : World} {c : Call} {s : Stepped} → Happens w c s → PodIn (w .pod) → PodIn (s .world .pod)
 unfolding answered

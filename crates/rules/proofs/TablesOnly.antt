@@ -16,13 +16,14 @@ use Rattle.tables.specs.Tables.{Three, starts}
 use Rattle.tables.specs.Command.{orderHeard}
 use Rattle.tables.specs.Port.{Desk, Tabled, tabled, tablesAfter, commandOf, loadRight, loadJudged, loadOf, wordTaken, dataInOf}
 use Rattle.rules.specs.State.{deskIn}
+use Rattle.rules.specs.Obey.{doneBy}
 use Rattle.rules.specs.Families.{WordCall, command, dataIn, dataOut, status, wordOf}
 use Rattle.rules.specs.World.{World}
 use Rattle.rules.specs.History.{Event}
 use Rattle.rules.specs.Transfers.{isRestart, tablesIn, wordTables, tablesBy}
 use Rattle.rules.specs.Demands.{TablesOnly}
 use Rattle.rules.proofs.Happens.{happens}
-use Rattle.rules.proofs.Eventful.{Eventful, quiet, anew, slept, updated, wrote, began, closed, acknowledged, shelved, spoken, moved, eventful}
+use Rattle.rules.proofs.Eventful.{Eventful, quiet, anew, initialised, slept, updated, wrote, began, closed, acknowledged, shelved, spoken, moved, eventful}
 
 -- a command word
 order-tables : (o : Order) (t : Three) → tablesAfter o t ≡ cond (isRestart o) starts t
@@ -59,9 +60,10 @@ word-tables status on w d = refl
 
 event-tables : (w v : World) (e : Event) → Eventful w e v
     → v .lent .tables ≡ tablesBy e (w .pod .initialised) (w .pod .words) (deskIn (w .lent))
-unfolding tablesBy
+unfolding tablesBy doneBy
 event-tables w _ _ quiet = refl
-event-tables w _ _ (anew b f) = refl
+event-tables w _ _ anew = refl
+event-tables w _ _ (initialised f) = refl
 event-tables w _ _ (slept a) = refl
 event-tables w _ _ (updated f) = refl
 event-tables w _ _ (wrote id v k) = refl

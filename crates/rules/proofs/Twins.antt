@@ -37,7 +37,7 @@ use Rattle.rules.specs.World.{World, world, Call, power, packet, deadlin
 use Rattle.rules.proofs.Stores.{store-same}
 use Rattle.rules.proofs.Happens.{putting, wording}
 use Rattle.rules.proofs.Inside.{pod-in, ring-in}
-use Rattle.rules.proofs.Sound.{PutFits, put-fits}
+use Rattle.rules.proofs.Fits.{PutFits, put-fits}
 use Rattle.rules.proofs.WordsAlike.{cameOf, Gathered, none-came, SameDesk, same-desk, words-alike}
 
 -- ---- one store

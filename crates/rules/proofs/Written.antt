@@ -16,9 +16,10 @@ use Rattle.params.specs.Rows.{paramRow}
 use Rattle.params.specs.Rules.{isId, valueAt, marked, inRow, inSpan, startParams, stored, writeAllowed}
 use Rattle.params.proofs.Laws.{id-within, id-held, start-held, start-marks}
 use Rattle.rules.specs.State.{Lent, freshPod}
+use Rattle.rules.specs.Obey.{initialisedPod, doneBy}
 use Rattle.rules.specs.World.{World, Call, final, powered}
 use Rattle.rules.specs.History.{events, fold, valueBy, markBy}
-use Rattle.rules.proofs.Eventful.{quiet, anew, slept, updated, wrote, began, closed, acknowledged, shelved, spoken, moved}
+use Rattle.rules.proofs.Eventful.{quiet, anew, initialised, slept, updated, wrote, began, closed, acknowledged, shelved, spoken, moved}
 use Rattle.rules.proofs.Histories.{Keeps, history, powered-fresh}
 use Rattle.rules.proofs.Untouched.{acknowledged-untouched}
 
@@ -53,9 +54,10 @@ module _ (id : ℕ) (i : isId id ≡ true) where
   start-value = (refl, let a = id-held startParams id i in let b = start-held id i in cc)
 
   value-kept : Keeps (valueBy id) ValuedAs
-  unfolding valueBy freshPod
+  unfolding valueBy doneBy initialisedPod freshPod
   value-kept w _ _ quiet v h = h
-  value-kept w _ _ (anew b f) v h = start-value
+  value-kept w _ _ anew v h = start-value
+  value-kept w _ _ (initialised f) v h = start-value
   value-kept w _ _ (slept on) v h = h
   value-kept w _ _ (updated f) v h = h
   value-kept w _ _ (wrote k u a) v h =
@@ -82,9 +84,10 @@ module _ (id : ℕ) (i : isId id ≡ true) where
   start-mark = rw start-marks (refl, getD-replicate 12 (id - 1) false false (omega (arith, id-within id i)))
 
   mark-kept : Keeps (markBy id) MarkedAs
-  unfolding markBy freshPod
+  unfolding markBy doneBy initialisedPod freshPod
   mark-kept w _ _ quiet m h = h
-  mark-kept w _ _ (anew b f) m h = start-mark
+  mark-kept w _ _ anew m h = start-mark
+  mark-kept w _ _ (initialised f) m h = start-mark
   mark-kept w _ _ (slept on) m h = h
   mark-kept w _ _ (updated f) m h = h
   mark-kept w _ _ (wrote k u a) m h =
