@@ -11,7 +11,7 @@ use Rattle.tables.specs.Tables.{three, listed}
 use Rattle.rules.specs.State.{Lent, freshPod}
 use Rattle.rules.specs.Refusals.{done}
 use Rattle.rules.specs.Families.{status, byte}
-use Rattle.rules.specs.World.{world, Call, power, packet, put, word, pipe, samples, Told, told, answering, step, final, tells}
+use Rattle.rules.specs.World.{world, Call, power, packet, deadline, put, word, pipe, samples, Told, told, answering, step, final, tells}
 use Rattle.rules.specs.Shown.{justInitialised, wordsOut, statusAfter, fiveAfter, order, loading, reading, load, Line, line, AsExpected}
 
 abbrev pub sevenAfter : List Call → List ℕ
@@ -46,9 +46,9 @@ computed x y z =
     ∷ line (wordsOut (order 0x8E04 ++ loading (7 ∷ 1 ∷ 1 ∷ x ∷ []) ++ order 0x0001 ++ order 0xCE06 ++ reading 6)) (7 ∷ 0 ∷ 3 ∷ 0 ∷ 256 ∷ 512 ∷ [])
     -- StatusWordShows: message error, and then no more
     ∷ line (wordsOut (order 0x0000 ++ (word status ∷ word status ∷ []))) (2 ∷ 0 ∷ [])
-    -- FramesAreHistory: awake; with a byte gathered; and both asleep
+    -- FramesAreHistory: awake; with a byte gathered, a deadline past; and both asleep
     ∷ line (framesShown [] 0) (framesWith 0 4 0)
-    ∷ line (framesShown (pipe (byte 9) ∷ []) 5) (framesWith 128 4 20)
+    ∷ line (framesShown (pipe (byte 9) ∷ deadline ∷ []) 5) (framesWith 128 4 20)
     ∷ line (framesShown (pipe (byte 9) ∷ off) 0) (framesWith 128 0 0)
     ∷ line (framesShown off 5) (framesWith 0 0 20)
     ∷ []
