@@ -34,4 +34,5 @@ pub mod Holding
 pub mod Gathering
 pub mod LoadWhole
 pub mod LoadCut
+pub mod PortOnly
 pub mod Whole
