@@ -8,13 +8,12 @@ use mathlib.Core.List.{List, [], _∷_, _++_}
 use Rattle.rows.specs.Rows.{Clear, none, past}
 use Rattle.rows.proofs.Laws.{ran-clear}
 use Rattle.blocks.specs.declared.Store.{Store}
-use Rattle.blocks.specs.declared.Store.the-variants as store
 use Rattle.packets.specs.declared.Command.{Command}
 use Rattle.packets.specs.declared.Command.the-variants.{Initialise, Status, Update, Write, Read, Priority, Data, Shutdown}
 use Rattle.packets.specs.Commands.{commandRow}
 use Rattle.tables.specs.declared.Transfer.the-variants.{Idle}
 use Rattle.tables.specs.Port.{startWords, closeOf}
-use Rattle.rules.specs.State.{Lent, withStore, deskIn, freshPod}
+use Rattle.rules.specs.State.{deskIn, freshPod}
 use Rattle.rules.specs.Obey.{initialisedPod, doneBy}
 use Rattle.rules.specs.Families.{WordCall, command, dataIn, dataOut, status, wordLent, PipeCall}
 use Rattle.rules.specs.Calls.{answered, wordCall}
@@ -24,7 +23,7 @@ use Rattle.rules.specs.Transfers.{Fit, cuts}
 use Rattle.rules.proofs.Happens.{Happens, by-rows, by-power, by-empty, by-damage, by-acknowledgement, by-check, by-command, by-deadline, by-put, by-pipe, by-samples, obeying, wording}
 use Rattle.rules.proofs.Succeeded.{error-fails, room-at}
 use Rattle.rules.proofs.Eventful.{command-succeeds}
-use Rattle.rules.proofs.Untouched.{ring-untouched, acknowledged-untouched}
+use Rattle.rules.proofs.Untouched.{acknowledged-untouched}
 
 -- the world after some calls and then some more
 pub final-then : (w : World) (bs cs : List Call) → final w (bs ++ cs) ≡ final (final w bs) cs
@@ -87,10 +86,6 @@ pub data Ported (w : World) : Event → World → Type 0 where
 still : (w : World) → Kept w w
 still w = record { words = refl; desk = refl }
 
-store-desk : (s : Store) (x : List ℕ) (l : Lent) → deskIn (withStore s x l) ≡ deskIn l
-store-desk store.Priority x l = refl
-store-desk store.Ordinary x l = refl
-
 -- a command answered without error
 command-ported : (w : World) (room : List ℕ) (c : Command) → Ported w (obeyedAs c) (obeying c room w .world)
 unfolding doneBy answered cuts initialisedPod freshPod startWords closeOf
@@ -115,6 +110,6 @@ ported {w} o (by-check b room c n k e f) =
     rw (e, error-fails room (commandRow c .code) n (room-at w b room k)) (apart _ _ (λ g. refl) (record { words = refl; desk = refl }))
 ported {w} o (by-command b room c k e q) = rw (e, command-succeeds w room (room-at w b room k) c) (command-ported w room c)
 ported o (by-deadline k) = apart _ _ (λ g. refl) (record { words = refl; desk = refl })
-ported {w} o (by-put s b k) = apart _ _ (λ g. refl) (record { words = ring-untouched s _ (w .pod) .words; desk = store-desk s _ (w .lent) })
-ported {w} o (by-pipe c k) = apart _ _ (λ g. refl) (record { words = refl; desk = refl })
+ported o (by-put s b k) = apart _ _ (λ g. refl) (record { words = refl; desk = refl })
+ported o (by-pipe c k) = apart _ _ (λ g. refl) (record { words = refl; desk = refl })
 ported {w} o (by-samples k xs q) = apart _ _ (λ g. refl) (still w)

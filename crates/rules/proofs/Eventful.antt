@@ -1,9 +1,9 @@
 -- What happens, by its event: what each event leaves. Each fold's proof goes by these cases.
 -- Assumes nothing.
 use Prim.Native.Nat.{ℕ, _≤_}
-use mathlib.Core.Path.{_≡_, refl}
+use mathlib.Core.Path.{_≡_}
 use mathlib.Core.Bool.{Bool, true, false}
-use mathlib.Core.List.{List, []}
+use mathlib.Core.List.{List}
 use lib.Dec.{eqb}
 use lib.ListN.{length}
 use lib.IntN.{ℤ}
@@ -12,10 +12,10 @@ use Rattle.rows.proofs.Bool.{not-false}
 use Rattle.rows.proofs.Laws.{clear-head, clear-rest}
 use Rattle.blocks.specs.declared.Store.{Store}
 use Rattle.blocks.specs.declared.Store.the-variants as store
+use Rattle.blocks.specs.declared.Ring.{Ring}
 use Rattle.packets.specs.declared.Command.{Command}
 use Rattle.packets.specs.declared.Command.the-variants.{Initialise, Status, Update, Write, Read, Priority, Data, Shutdown}
 use Rattle.packets.specs.declared.Fields.{Fields}
-use Rattle.packets.specs.Answers.{errorAnswer}
 use Rattle.packets.specs.Commands.{commandRow}
 use Rattle.params.specs.Rules.{writeAllowed, stored}
 use Rattle.tables.specs.Tables.{starts}
@@ -24,21 +24,24 @@ use Rattle.pipe.specs.Input.{sentBytes}
 use Rattle.rules.specs.declared.Pod.{Pod}
 use Rattle.rules.specs.declared.Exchange.{Exchange}
 use Rattle.rules.specs.declared.Exchange.the-variants as exchange
-use Rattle.rules.specs.State.{ringOf, remainingOf, freshPod, freshFields, soundPod, withInitialised, withFields, withParams, withExchange, withWords, storeIn, withTables}
-use Rattle.rules.specs.Obey.{initialisedPod, shut, checksOf, doneBy, receiveChecks, acknowledgedOf}
+use Rattle.rules.specs.State.{ofStore, remainingOf, freshPod, freshFields, soundPod, withInitialised, withFields, withParams, withExchange, withWords, withTables}
+use Rattle.rules.specs.Obey.{initialisedPod, shut, checksOf, doneBy, acknowledgedOf}
 use Rattle.rules.specs.Families.{WordCall, PipeCall, pipeOf}
-use Rattle.rules.specs.Calls.{meantBody, replyBytes, spokenBytes, answered}
-use Rattle.rules.specs.World.{World, world, Call, packet, put, word, pipe, Told, answering, Stepped, rowsOf}
+use Rattle.rules.specs.Calls.{replyBytes, spokenBytes, answered}
+use Rattle.rules.specs.World.{World, world, Call, packet, put, word, pipe, Stepped, rowsOf}
 use Rattle.rules.specs.History.{Event, nothing, begins, sleeps, updates, writes, opens, closes, acknowledges, puts, words, pipes, obeyedAs, succeeded, eventOf}
 use Rattle.rules.proofs.Happens.{Happens, by-rows, by-power, by-empty, by-damage, by-acknowledgement, by-check, by-command, by-deadline, by-put, by-word, by-pipe, by-samples, powering, obeying, putting, wording, piping}
 use Rattle.rules.proofs.Succeeded.{one-succeeds, error-fails, room-at}
 
 -- the block of an open receive waits, and remaining is above 0
+abbrev WaitsIn : Exchange → Ring → Ring → Fields → Type 0
+WaitsIn exchange.Closed a b f = Unit {0}
+WaitsIn exchange.Status a b f = Unit {0}
+WaitsIn exchange.Read a b f = Unit {0}
+WaitsIn (exchange.Receive s) a b f = (eqb (ofStore s a b .waiting) 0 ≡ false) × (eqb (remainingOf s f) 0 ≡ false)
+
 abbrev pub Waits : Exchange → Pod → Type 0
-Waits exchange.Closed p = Unit {0}
-Waits exchange.Status p = Unit {0}
-Waits exchange.Read p = Unit {0}
-Waits (exchange.Receive s) p = (eqb (ringOf s p .waiting) 0 ≡ false) × (eqb (remainingOf s (p .fields)) 0 ≡ false)
+Waits x p = WaitsIn x (p .priority) (p .ordinary) (p .fields)
 
 pub data Eventful (w : World) : Event → World → Type 0 where
   quiet : Eventful w nothing w

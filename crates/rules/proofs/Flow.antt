@@ -6,21 +6,20 @@ use mathlib.Core.Path.{_≡_, refl, sym, ap, _∙_}
 use mathlib.Core.List.{List, [], _∷_, _++_, append-nil, append-assoc}
 use lib.ListN.{length, take}
 use borrow.Author.Tests.{lt-ltb, le-ltb, eq-eqb, ne-eqb}
-use Rattle.blocks.specs.Stores.{putRing}
 use Rattle.pipe.specs.declared.Input.{Input}
 use Rattle.pipe.specs.declared.Pipe.{Pipe}
 use Rattle.pipe.specs.Input.{heldIn, sentBytes, emptyInput, freshInput, gathers, pipeByte, countUp, pipeTimeout}
 use Rattle.pipe.specs.Pipe.{freshPipe}
 use Rattle.pipe.proofs.Cases.{byte-cases, timeout-cases}
 use Rattle.pipe.proofs.Held.{Whole, length-held, held-gathers, held-empty, listed, whole-empty, whole-gathers}
-use Rattle.rules.specs.State.{Lent, freshPod, ringOf}
+use Rattle.rules.specs.State.{Lent, freshPod}
 use Rattle.rules.specs.Families.{PipeCall, byte, timeout, pipeOf}
 use Rattle.rules.specs.World.{Call, final, powered}
 use Rattle.rules.specs.History.{Flow, noFlow, flowAfter, flowBy, sentBy, events, fold}
 use Rattle.rules.specs.Demands.{Flows, PipeIsHistory}
 use Rattle.rules.proofs.Eventful.{quiet, anew, slept, updated, wrote, began, closed, acknowledged, shelved, spoken, moved}
 use Rattle.rules.proofs.Histories.{Keeps, history, both, fold-both, powered-fresh}
-use Rattle.rules.proofs.Untouched.{ring-untouched, acknowledged-untouched}
+use Rattle.rules.proofs.Untouched.{acknowledged-untouched}
 
 -- an input as the code can hold it, by the history
 pub record Flowing (i : Input) (s : List ℕ) (f : Flow) : Type 0 where
@@ -103,7 +102,7 @@ flow-kept w _ _ (wrote id v e) a x = x
 flow-kept w _ _ (began y e h) a x = x
 flow-kept w _ _ closed a x = x
 flow-kept w _ _ (acknowledged first one e) a x = rw (acknowledged-untouched first one (w .pod) .pipe) x
-flow-kept w _ _ (shelved s b k) a x = rw (ring-untouched s (putRing (ringOf s (w .pod))) (w .pod) .pipe) x
+flow-kept w _ _ (shelved s b k) a x = x
 flow-kept w _ _ (spoken c k) a x = x
 flow-kept w _ _ (moved c k) a x = pipe-flows c (w .pod .pipe) (a .0) (a .1) x
 

@@ -28,7 +28,7 @@ use Rattle.rules.specs.Demands.{MessageError, ErrorIsHistory, StatusWord
 use Rattle.rules.proofs.Happens.{Happens, by-rows, by-word, happens}
 use Rattle.rules.proofs.Eventful.{Eventful, quiet, anew, slept, updated, wrote, began, closed, acknowledged, shelved, spoken, moved, eventful}
 use Rattle.rules.proofs.Histories.{powered-fresh}
-use Rattle.rules.proofs.Untouched.{ring-untouched, acknowledged-untouched}
+use Rattle.rules.proofs.Untouched.{acknowledged-untouched}
 
 -- ---- a table word
 
@@ -98,7 +98,7 @@ event-errs w _ _ (wrote id v k) = refl
 event-errs w _ _ (began x a k) = refl
 event-errs w _ _ closed = refl
 event-errs w _ _ (acknowledged first one k) = ap (λ (q : Words). q .error) (acknowledged-untouched first one (w .pod) .words)
-event-errs w _ _ (shelved s b k) = ap (λ (q : Words). q .error) (ring-untouched s _ (w .pod) .words)
+event-errs w _ _ (shelved s b k) = refl
 event-errs w _ _ (spoken c k) = word-errs c (w .pod .initialised) (w .pod .words) (deskIn (w .lent))
 event-errs w _ _ (moved c k) = refl
 

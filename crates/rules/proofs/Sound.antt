@@ -2,15 +2,15 @@
 -- Assumes nothing.
 use Prim.Native.Nat.{ℕ, _-_, _*_, _<_}
 use native.Mathlib.Omega.{arith}
-use mathlib.Core.Path.{_≡_, refl, sym, ap, _∙_}
-use mathlib.Core.Bool.{Bool, true, _&&_, _||_}
+use mathlib.Core.Path.{_≡_, refl, ap, _∙_}
+use mathlib.Core.Bool.{Bool, true, _||_}
 use mathlib.Core.List.{List, [], _∷_}
-use lib.Dec.{leb, eqb}
+use lib.Dec.{eqb}
 use lib.IntN.{ℤ}
 use lib.ListN.{length}
-use borrow.Author.Tests.{leb-true, leb-false, le-leb, eqb-true}
+use borrow.Author.Tests.{leb-false, eqb-true}
 use Rattle.rows.specs.Rows.{Clear, none, past}
-use Rattle.rows.proofs.Bool.{by-test, and-left, and-right, not-false}
+use Rattle.rows.proofs.Bool.{by-test, not-false}
 use Rattle.blocks.specs.declared.Store.{Store}
 use Rattle.blocks.specs.declared.Store.the-variants.{Priority, Ordinary}
 use Rattle.blocks.specs.Stores.{capacityOf, storeSized}
@@ -19,6 +19,7 @@ use Rattle.packets.specs.declared.Fields.{Fields}
 use Rattle.packets.specs.declared.Command.{Command}
 use Rattle.packets.specs.declared.Command.the-variants as command
 use Rattle.packets.specs.Commands.{fieldsBounded}
+use Rattle.packets.proofs.Laws.{Within, bounded-within, within-bounded}
 use Rattle.params.specs.declared.Params.{Params}
 use Rattle.params.specs.Rules.{soundParams, writeAllowed, stored, writeOf}
 use Rattle.params.proofs.Laws.{write-sound}
@@ -67,23 +68,11 @@ command-in command.Shutdown l p (past on none) shut h =
 
 -- a remaining that falls by 1 stays at most its limit
 pub fewer-bounded : (s : Store) (f : Fields) → fieldsBounded f ≡ true → fieldsBounded (withRemaining s (remainingOf s f - 1) f) ≡ true
-unfolding fieldsBounded
-fewer-bounded s f h =
-    let a = leb (f .mode) 3 && leb (f .milliseconds) 999 in
-    let b = leb (f .priorityremaining) (f .prioritylimit) in
-    let c = leb (f .memoryremaining) (f .memorylimit) in
-    let d = leb 1 (f .poll) in
-    let e = leb (f .poll) 60000 in
-    let front = and-left (a && b && c) d (and-left (a && b && c && d) e h) in
-    on s (and-right a b (and-left (a && b) c front)) (and-right (a && b) c front)
+fewer-bounded s f h = within-bounded _ (on s (bounded-within f h))
   where
-    less : (m n : ℕ) → leb m n ≡ true → leb (m - 1) n ≡ leb m n
-    less m n k = le-leb (m - 1) n (omega (arith, leb-true m n k)) ∙ sym k
-
-    on : (s : Store) → leb (f .priorityremaining) (f .prioritylimit) ≡ true → leb (f .memoryremaining) (f .memorylimit) ≡ true
-        → fieldsBounded (withRemaining s (remainingOf s f - 1) f) ≡ true
-    on Priority b c = rw (less (f .priorityremaining) (f .prioritylimit) b) h
-    on Ordinary b c = rw (less (f .memoryremaining) (f .memorylimit) c) h
+    on : (s : Store) → Within f → Within (withRemaining s (remainingOf s f - 1) f)
+    on Priority b = record { mode = b .mode; milliseconds = b .milliseconds; priority = omega (arith, b .priority); memory = b .memory; least = b .least; most = b .most }
+    on Ordinary b = record { mode = b .mode; milliseconds = b .milliseconds; priority = b .priority; memory = omega (arith, b .memory); least = b .least; most = b .most }
 
 dropped-in : (s : Store) (p : Pod) → PodIn p → PodIn (dropFrom s p)
 unfolding dropFrom

@@ -1,11 +1,13 @@
 -- Either store: what is lent with one store changed, and the pod with one ring changed. Each law is said once, for whichever store.
 -- Assumes nothing.
 use mathlib.Core.Path.{_≡_, refl}
+use mathlib.Core.Bool.{Bool, true, _&&_, cond, false≢true}
 use mathlib.Core.List.{List}
 use Prim.Native.Nat.{ℕ}
 use Rattle.blocks.specs.declared.Store.{Store}
 use Rattle.blocks.specs.declared.Store.the-variants.{Priority, Ordinary}
-use Rattle.rules.specs.State.{Lent, storeIn, withStore}
+use Rattle.rules.specs.State.{Lent, ofStore, storeIn, withStore}
+use Rattle.rules.specs.History.{sameStore}
 
 -- a store lent back as it came
 pub store-same : (s : Store) (l : Lent) → withStore s (storeIn s l) l ≡ l
@@ -15,3 +17,30 @@ store-same Ordinary l = refl
 pub store-new : (s : Store) (x : List ℕ) (l : Lent) → storeIn s (withStore s x l) ≡ x
 store-new Priority x l = refl
 store-new Ordinary x l = refl
+
+-- two things that are one
+pub of-both : {A : Type 0} (s : Store) (a : A) → ofStore s a a ≡ a
+of-both Priority a = refl
+of-both Ordinary a = refl
+
+-- two things of which that of a store is changed: so with the rings, the remainings and the bytes
+pub of-changed : {A : Type 0} (f : Store → A) (r s : Store) (a b : A)
+    → ofStore r (ofStore s (f s) a) (ofStore s b (f s)) ≡ cond (sameStore r s) (f r) (ofStore r a b)
+of-changed f Priority Priority a b = refl
+of-changed f Priority Ordinary a b = refl
+of-changed f Ordinary Priority a b = refl
+of-changed f Ordinary Ordinary a b = refl
+
+-- a store is the one that it is the same as
+pub same-is : (r s : Store) → sameStore r s ≡ true → r ≡ s
+same-is Priority Priority e = refl
+same-is Priority Ordinary e = absurd (false≢true e)
+same-is Ordinary Priority e = absurd (false≢true e)
+same-is Ordinary Ordinary e = refl
+
+-- so what is asked of the one may be asked of the other
+pub same-test : (f : Store → Bool) (r s : Store) → (sameStore r s && f r) ≡ (sameStore r s && f s)
+same-test f Priority Priority = refl
+same-test f Priority Ordinary = refl
+same-test f Ordinary Priority = refl
+same-test f Ordinary Ordinary = refl

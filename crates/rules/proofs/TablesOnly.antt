@@ -3,12 +3,9 @@
 use Prim.Native.Nat.{ℕ, _+_}
 use mathlib.Core.Path.{_≡_, refl}
 use mathlib.Core.Bool.{Bool, cond}
-use mathlib.Core.List.{List}
 use lib.Dec.{ltb}
 use lib.ListN.{set}
 use Rattle.rows.proofs.Bool.{split}
-use Rattle.blocks.specs.declared.Store.{Store}
-use Rattle.blocks.specs.declared.Store.the-variants.{Priority, Ordinary}
 use Rattle.tables.specs.declared.Header.{Header}
 use Rattle.tables.specs.declared.Words.{Words}
 use Rattle.tables.specs.declared.Order.{Order}
@@ -18,7 +15,7 @@ use Rattle.tables.specs.declared.Transfer.the-variants.{Idle, Address, Load, Re
 use Rattle.tables.specs.Tables.{Three, starts}
 use Rattle.tables.specs.Command.{orderHeard}
 use Rattle.tables.specs.Port.{Desk, Tabled, tabled, tablesAfter, commandOf, loadRight, loadJudged, loadOf, wordTaken, dataInOf}
-use Rattle.rules.specs.State.{Lent, withStore, deskIn}
+use Rattle.rules.specs.State.{deskIn}
 use Rattle.rules.specs.Families.{WordCall, command, dataIn, dataOut, status, wordOf}
 use Rattle.rules.specs.World.{World}
 use Rattle.rules.specs.History.{Event}
@@ -60,11 +57,6 @@ word-tables (dataIn x) on w d = taken-tables (w .transfer) x (tabled w d)
 word-tables dataOut on w d = refl
 word-tables status on w d = refl
 
--- a store that is changed leaves them
-store-tables : (s : Store) (x : List ℕ) (l : Lent) → withStore s x l .tables ≡ l .tables
-store-tables Priority x l = refl
-store-tables Ordinary x l = refl
-
 event-tables : (w v : World) (e : Event) → Eventful w e v
     → v .lent .tables ≡ tablesBy e (w .pod .initialised) (w .pod .words) (deskIn (w .lent))
 unfolding tablesBy
@@ -76,7 +68,7 @@ event-tables w _ _ (wrote id v k) = refl
 event-tables w _ _ (began x a k) = refl
 event-tables w _ _ closed = refl
 event-tables w _ _ (acknowledged first one k) = refl
-event-tables w _ _ (shelved s b k) = store-tables s _ (w .lent)
+event-tables w _ _ (shelved s b k) = refl
 event-tables w _ _ (spoken c k) = word-tables c (w .pod .initialised) (w .pod .words) (deskIn (w .lent))
 event-tables w _ _ (moved c k) = refl
 

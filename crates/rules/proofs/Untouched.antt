@@ -1,18 +1,15 @@
--- What a block put or acknowledged leaves of the pod: all but the rings, the fields and the exchange.
+-- What an acknowledgement leaves of the pod: all but the rings, the fields and the exchange.
 -- Assumes nothing.
-use Prim.Native.Nat.{ℕ, _-_}
+use Prim.Native.Nat.{ℕ}
 use mathlib.Core.Path.{_≡_, refl}
 use mathlib.Core.Bool.{Bool, _||_}
 use lib.Dec.{eqb}
 use Rattle.rows.proofs.Bool.{by-test}
 use Rattle.blocks.specs.declared.Store.{Store}
-use Rattle.blocks.specs.declared.Store.the-variants.{Priority, Ordinary}
-use Rattle.blocks.specs.declared.Ring.{Ring}
-use Rattle.blocks.specs.Stores.{capacityOf, droppedRing}
 use Rattle.rules.specs.declared.Exchange.{Exchange}
 use Rattle.rules.specs.declared.Exchange.the-variants.{Closed, Status, Read, Receive}
 use Rattle.rules.specs.declared.Pod.{Pod}
-use Rattle.rules.specs.State.{withFields, withRing, ringOf, remainingOf, withRemaining}
+use Rattle.rules.specs.State.{ringOf, remainingOf}
 use Rattle.rules.specs.Obey.{matches, dropFrom, settled, acknowledgedOf}
 
 pub record Untouched (p q : Pod) : Type 0 where
@@ -24,17 +21,11 @@ pub record Untouched (p q : Pod) : Type 0 where
 untouched : (p : Pod) → Untouched p p
 untouched p = record { initialised = refl; params = refl; words = refl; pipe = refl }
 
-pub ring-untouched : (s : Store) (r : Ring) (p : Pod) → Untouched p (withRing s r p)
-ring-untouched Priority r p = record { initialised = refl; params = refl; words = refl; pipe = refl }
-ring-untouched Ordinary r p = record { initialised = refl; params = refl; words = refl; pipe = refl }
-
 drop-untouched : (s : Store) (p : Pod) → Untouched p (dropFrom s p)
 unfolding dropFrom
 drop-untouched s p =
     by-test (λ q. Untouched p q) (eqb (ringOf s p .waiting) 0 || eqb (remainingOf s (p .fields)) 0) (λ e. untouched p)
-    (λ e.
-    let x = ring-untouched s (droppedRing (capacityOf s) (ringOf s p)) (withFields (withRemaining s (remainingOf s (p .fields) - 1) (p .fields)) p) in
-    record { initialised = x .initialised; params = x .params; words = x .words; pipe = x .pipe })
+    (λ e. record { initialised = refl; params = refl; words = refl; pipe = refl })
 
 settled-untouched : (x : Exchange) (p : Pod) → Untouched p (settled x p)
 unfolding settled

@@ -10,3 +10,5 @@ pub mod Checks
 pub mod Transfers
 pub mod Pairs
 pub mod Demands
+pub mod Shown
+pub mod Computed

@@ -43,11 +43,14 @@ abbrev pub withWords : Words → Pod → Pod
 withWords w p =
     record { initialised = p .initialised; fields = p .fields; params = p .params; exchange = p .exchange; words = w; priority = p .priority; ordinary = p .ordinary; pipe = p .pipe }
 
+-- of two things, that of a store
+abbrev pub ofStore : {A : Type 0} → Store → A → A → A
+ofStore Priority a b = a
+ofStore Ordinary a b = b
+
 abbrev pub withRing : Store → Ring → Pod → Pod
-withRing Priority r p =
-    record { initialised = p .initialised; fields = p .fields; params = p .params; exchange = p .exchange; words = p .words; priority = r; ordinary = p .ordinary; pipe = p .pipe }
-withRing Ordinary r p =
-    record { initialised = p .initialised; fields = p .fields; params = p .params; exchange = p .exchange; words = p .words; priority = p .priority; ordinary = r; pipe = p .pipe }
+withRing s r p =
+    record { initialised = p .initialised; fields = p .fields; params = p .params; exchange = p .exchange; words = p .words; priority = ofStore s r (p .priority); ordinary = ofStore s (p .ordinary) r; pipe = p .pipe }
 
 abbrev pub withPipe : Pipe → Pod → Pod
 withPipe i p =
@@ -55,19 +58,15 @@ withPipe i p =
 
 -- the blocks of a store: "place of the oldest block", and how many wait
 abbrev pub ringOf : Store → Pod → Ring
-ringOf Priority p = p .priority
-ringOf Ordinary p = p .ordinary
+ringOf s p = ofStore s (p .priority) (p .ordinary)
 
 -- "its remaining": priority remaining of the priority store, memory remaining of the ordinary one
 abbrev pub remainingOf : Store → Fields → ℕ
-remainingOf Priority f = f .priorityremaining
-remainingOf Ordinary f = f .memoryremaining
+remainingOf s f = ofStore s (f .priorityremaining) (f .memoryremaining)
 
 abbrev pub withRemaining : Store → ℕ → Fields → Fields
-withRemaining Priority n f =
-    record { mode = f .mode; flags = f .flags; seconds = f .seconds; milliseconds = f .milliseconds; prioritylimit = f .prioritylimit; priorityremaining = n; memorylimit = f .memorylimit; memoryremaining = f .memoryremaining; poll = f .poll }
-withRemaining Ordinary n f =
-    record { mode = f .mode; flags = f .flags; seconds = f .seconds; milliseconds = f .milliseconds; prioritylimit = f .prioritylimit; priorityremaining = f .priorityremaining; memorylimit = f .memorylimit; memoryremaining = n; poll = f .poll }
+withRemaining s n f =
+    record { mode = f .mode; flags = f .flags; seconds = f .seconds; milliseconds = f .milliseconds; prioritylimit = f .prioritylimit; priorityremaining = ofStore s n (f .priorityremaining); memorylimit = f .memorylimit; memoryremaining = ofStore s (f .memoryremaining) n; poll = f .poll }
 
 -- ---- as from power
 
@@ -114,12 +113,10 @@ pub record Lent : Type 0 where
   pub load : List ℕ
 
 abbrev pub storeIn : Store → Lent → List ℕ
-storeIn Priority l = l .priority
-storeIn Ordinary l = l .ordinary
+storeIn s l = ofStore s (l .priority) (l .ordinary)
 
 abbrev pub withStore : Store → List ℕ → Lent → Lent
-withStore Priority s l = record { priority = s; ordinary = l .ordinary; tables = l .tables; load = l .load }
-withStore Ordinary s l = record { priority = l .priority; ordinary = s; tables = l .tables; load = l .load }
+withStore s x l = record { priority = ofStore s x (l .priority); ordinary = ofStore s (l .ordinary) x; tables = l .tables; load = l .load }
 
 abbrev pub withStores : List ℕ → List ℕ → Lent → Lent
 withStores p o l = withStore Priority p (withStore Ordinary o l)

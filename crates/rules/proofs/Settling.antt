@@ -1,0 +1,48 @@
+-- An acknowledgement, where the block of an open receive waits: it drops the block of the store that is acknowledged, or it drops none.
+-- Assumes nothing.
+use Prim.Native.Nat.{ℕ, _-_}
+use mathlib.Core.Path.{_≡_, refl, _∙_}
+use mathlib.Core.Bool.{Bool, false, _&&_, cond, and-true}
+use lib.Dec.{eqb}
+use Rattle.rows.proofs.Bool.{by-test, and-false}
+use Rattle.blocks.specs.declared.Store.{Store}
+use Rattle.blocks.specs.Stores.{capacityOf, droppedRing}
+use Rattle.packets.specs.Commands.{commandRow}
+use Rattle.rules.specs.declared.Exchange.{Exchange}
+use Rattle.rules.specs.declared.Exchange.the-variants.{Closed, Status, Read, Receive}
+use Rattle.rules.specs.declared.Pod.{Pod}
+use Rattle.rules.specs.State.{withFields, withRing, withRemaining, ringOf, remainingOf}
+use Rattle.rules.specs.Obey.{shut, receives, matches, dropFrom, settled, acknowledgedOf}
+use Rattle.rules.specs.History.{sameStore, acknowledged}
+use Rattle.rules.proofs.Eventful.{Waits}
+use Rattle.rules.proofs.Stores.{same-test}
+
+-- "the oldest block of that store is dropped and its remaining falls by 1"
+abbrev pub droppedPod : Store → Pod → Pod
+droppedPod s p =
+    withRing s (droppedRing (capacityOf s) (ringOf s p)) (withFields (withRemaining s (remainingOf s (p .fields) - 1) (p .fields)) p)
+
+-- what becomes of the pod, x being the exchange that was open, with what the history says of either store
+pub data Settles (p : Pod) (first : ℕ) (one : Bool) (x : Exchange) : Pod → Type 0 where
+  keeps : ((r : Store) → acknowledged r first one x ≡ false) → Settles p first one x (shut p)
+  drops : (s : Store) → ((r : Store) → acknowledged r first one x ≡ sameStore r s) → Settles p first one x (shut (droppedPod s p))
+
+module _ (first : ℕ) (one : Bool) (p : Pod) where
+  -- an open receive: both the pod and the history go by its code
+  receive-acknowledged : (r s : Store) → acknowledged r first one (Receive s) ≡ (sameStore r s && matches first one (Receive s))
+  unfolding acknowledged matches
+  receive-acknowledged r s = same-test (λ t. one && eqb first (commandRow (receives t) .code)) r s
+
+  settles-by : (x : Exchange) → Waits x p → Settles p first one x (shut (cond (matches first one x) (settled x p) p))
+  unfolding settled dropFrom acknowledged
+  settles-by Closed h = by-test (λ q. Settles p first one Closed (shut q)) (matches first one Closed) (λ e. keeps (λ r. refl)) (λ e. keeps (λ r. refl))
+  settles-by Status h = by-test (λ q. Settles p first one Status (shut q)) (matches first one Status) (λ e. keeps (λ r. refl)) (λ e. keeps (λ r. refl))
+  settles-by Read h = by-test (λ q. Settles p first one Read (shut q)) (matches first one Read) (λ e. keeps (λ r. refl)) (λ e. keeps (λ r. refl))
+  settles-by (Receive s) h =
+      by-test (λ q. Settles p first one (Receive s) (shut q)) (matches first one (Receive s))
+      (λ e. rw (h .0, h .1) (drops s (λ r. receive-acknowledged r s ∙ rw e (and-true (sameStore r s)))))
+      (λ e. keeps (λ r. receive-acknowledged r s ∙ rw e (and-false (sameStore r s))))
+
+  pub settles : Waits (p .exchange) p → Settles p first one (p .exchange) (acknowledgedOf first one p)
+  unfolding acknowledgedOf
+  settles h = settles-by (p .exchange) h

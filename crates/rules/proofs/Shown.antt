@@ -1,0 +1,42 @@
+-- P1 to P12, the lines beside the statements, and the conversation, by computation.
+-- Assumes nothing.
+use mathlib.Core.Path.{refl}
+use mathlib.Core.List.{flatten}
+use lib.Count.{ones}
+use Rattle.rows.specs.Rows.{ran}
+use Rattle.crc.specs.Crc.{poly, leaving, bitIn, bits, bitsIn, crcFrom, crcOf}
+use Rattle.packets.specs.Answers.{withCrc, answerOf, errorAnswer, statusBody, fieldBytes, bodyOf, commandBytes}
+use Rattle.packets.specs.Commands.{fieldsIn, fieldsBounded, findIn, listedIn, codeRow, isCode, commandPlace, commandRow}
+use Rattle.packets.specs.Numbers.{highFirst, numberOf, numberAt}
+use Rattle.packets.specs.Reading.{crcRight, acknowledges, packetRead}
+use Rattle.params.specs.Rules.{isId, inRows, soundParams, startParams, filter, missingIds, missingOf}
+use Rattle.blocks.specs.Stores.{storeSized, soundRing, placeBehind, blockAt, blocksFrom, blocksIn, oldestOf, putRing, putStore, droppedRing}
+use Rattle.tables.specs.Bounds.{soundPlaces, soundTransfer, soundWords}
+use Rattle.tables.specs.Command.{oddOnes, partsOf, orderOf, orderHeard}
+use Rattle.tables.specs.Port.{startWords, closeOf, readOpenedAt, readOpened, restarted, orderObeyed, tablesAfter, commandOf, wrongWay, loadRight, storedIn, loadJudged, loadOf, wordTaken, dataInOf, readWord, readNext, wordGiven, dataOutOf, statusOf}
+use Rattle.tables.specs.Tables.{listed, startTable, tablesSized}
+use Rattle.pipe.specs.Input.{heldIn, sentPacket, sentBytes, emptyInput, freshInput, gathers, pipeByte, countUp, pipeTimeout, soundInput, gatheringOf}
+use Rattle.pipe.specs.Pipe.{freshPipe, soundPipe}
+use Rattle.frames.specs.Fields.{placed, frame}
+use Rattle.frames.specs.Layout.{lines03, lines47, framesOf}
+use Rattle.frames.specs.Samples.{sampleAt, sumOf, averageOf, averagesOf, boundedOf}
+use Rattle.rules.specs.Calls.{powerCall, packetHeard, meantBody, replyBytes, spokenBytes, answered, packetCall, putCall, wordCall, pipeCall, samplesCall}
+use Rattle.rules.specs.Families.{wordOf, wordLent, pipeOf}
+use Rattle.rules.specs.Obey.{checksOf, initialisedPod, doneBy, obeyOf, matches, dropFrom, settled, acknowledgedOf, reportOf}
+use Rattle.rules.specs.Shown.{justInitialised, Shown}
+use Rattle.rules.specs.State.{freshFields, freshPod, restful, soundPod}
+use Rattle.rules.specs.World.{step, final, tells}
+use Rattle.rules.specs.Computed.{Computed, Conversation}
+
+by-computation : Shown × Computed × Conversation
+unfolding flatten ones ran poly leaving bitIn bits bitsIn crcFrom crcOf withCrc answerOf errorAnswer statusBody fieldBytes bodyOf commandBytes fieldsIn fieldsBounded findIn listedIn codeRow isCode commandPlace commandRow highFirst numberOf numberAt crcRight acknowledges packetRead isId inRows soundParams startParams filter missingIds missingOf storeSized soundRing placeBehind blockAt blocksFrom blocksIn oldestOf putRing putStore droppedRing soundPlaces soundTransfer soundWords oddOnes partsOf orderOf orderHeard startWords closeOf readOpenedAt readOpened restarted orderObeyed tablesAfter commandOf wrongWay loadRight storedIn loadJudged loadOf wordTaken dataInOf readWord readNext wordGiven dataOutOf statusOf listed startTable tablesSized heldIn sentPacket sentBytes emptyInput freshInput gathers pipeByte countUp pipeTimeout soundInput gatheringOf freshPipe soundPipe placed frame lines03 lines47 framesOf sampleAt sumOf averageOf averagesOf boundedOf powerCall packetHeard meantBody replyBytes spokenBytes answered packetCall putCall wordCall pipeCall samplesCall wordOf wordLent pipeOf checksOf initialisedPod doneBy obeyOf matches dropFrom settled acknowledgedOf reportOf justInitialised freshFields freshPod restful soundPod step final tells
+by-computation = (λ x. refl, λ x y z. refl, refl)
+
+pub all-shown : Shown
+all-shown = by-computation .0
+
+pub all-computed : Computed
+all-computed = by-computation .1
+
+pub conversed : Conversation
+conversed = by-computation .2
