@@ -32,3 +32,4 @@ pub mod LoadCut
 pub mod Sleepers
 pub mod Asleep
 pub mod Shown
+pub mod NotEmpty
