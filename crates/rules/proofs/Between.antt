@@ -1,22 +1,26 @@
--- What a call is to an open transfer: it leaves the port and what is lent to it as they were, ends all, or is a table word.
+-- What a call is to an open transfer: a table word, or a call that leaves the port and what is lent to it as they were, or one that ends
+-- all.
 -- Assumes nothing.
 use Prim.Native.Nat.{ℕ}
 use mathlib.Core.Path.{_≡_, refl, ap}
 use mathlib.Core.Bool.{Bool, true, false, not}
 use mathlib.Core.List.{List, [], _∷_, _++_}
-use Rattle.rows.specs.Rows.{First, Clear, none, past}
-use Rattle.rows.proofs.Laws.{never-both, ran-clear}
+use Rattle.rows.specs.Rows.{Clear, none, past}
+use Rattle.rows.proofs.Laws.{ran-clear}
+use Rattle.blocks.specs.declared.Store.{Store}
 use Rattle.packets.specs.declared.Command.{Command}
 use Rattle.packets.specs.declared.Command.the-variants.{Initialise, Status, Update, Write, Read, Priority, Data, Shutdown}
 use Rattle.packets.specs.Commands.{commandRow}
-use Rattle.rules.specs.State.{deskIn}
-use Rattle.rules.specs.Obey.{doneBy}
-use Rattle.rules.specs.Families.{WordCall, command, dataIn, dataOut, status, wordLent}
+use Rattle.tables.specs.declared.Transfer.the-variants.{Idle}
+use Rattle.tables.specs.Port.{startWords, closeOf}
+use Rattle.rules.specs.State.{deskIn, freshPod}
+use Rattle.rules.specs.Obey.{initialisedPod, doneBy}
+use Rattle.rules.specs.Families.{WordCall, command, dataIn, dataOut, status, wordLent, PipeCall}
 use Rattle.rules.specs.Calls.{answered, wordCall}
 use Rattle.rules.specs.World.{World, Call, power, packet, deadline, put, word, pipe, samples, Stepped, step, rowsOf, next, final}
-use Rattle.rules.specs.History.{Event, nothing, words, obeyedAs, eventOf}
-use Rattle.rules.specs.Transfers.{Fit, cuts, callWritten, callReads}
-use Rattle.rules.proofs.Happens.{Happens, by-rows, by-power, by-empty, by-damage, by-acknowledgement, by-check, by-command, by-deadline, by-put, by-word, by-pipe, by-samples, obeying, wording}
+use Rattle.rules.specs.History.{Event, words, obeyedAs, eventOf}
+use Rattle.rules.specs.Transfers.{Fit, cuts}
+use Rattle.rules.proofs.Happens.{Happens, by-rows, by-power, by-empty, by-damage, by-acknowledgement, by-check, by-command, by-deadline, by-put, by-pipe, by-samples, obeying, wording}
 use Rattle.rules.proofs.Succeeded.{error-fails, room-at}
 use Rattle.rules.proofs.Eventful.{command-succeeds}
 use Rattle.rules.proofs.Untouched.{acknowledged-untouched}
@@ -27,7 +31,8 @@ unfolding final
 final-then w [] cs = refl
 final-then w (c ∷ bs) cs = final-then (next w c) bs cs
 
--- a table word in a world that is fit for it
+-- ---- a table word
+
 fit-clear : {w : World} → Fit w → (x : WordCall) → Clear (rowsOf w (word x))
 unfolding rowsOf wordLent
 fit-clear h (command x) = past (ap not (h .tables)) (past (ap not (h .sound)) none)
@@ -35,63 +40,76 @@ fit-clear h (dataIn x) = past (ap not (h .tables)) (past (ap not (h .sound)) non
 fit-clear h dataOut = past (ap not (h .tables)) (past (ap not (h .sound)) none)
 fit-clear h status = past (ap not (h .sound)) none
 
+-- in a world that is fit for it it takes place
 pub word-fit : (w : World) → Fit w → (x : WordCall) → step w (word x) ≡ wording x w
 unfolding step rowsOf wordCall
 word-fit w h x = rw (ran-clear (w .pod) (deskIn (w .lent)) _ (fit-clear h x))
 
+pub word-event : (w : World) → Fit w → (x : WordCall) → eventOf (word x) (step w (word x) .told) ≡ words x
+unfolding eventOf
+word-event w h x = ap (λ (s : Stepped). eventOf (word x) (s .told)) (word-fit w h x)
+
+-- ---- any other call
+
+pub data Other : Call → Type 0 where
+  powers : Other power
+  sends : (b room : List ℕ) → Other (packet b room)
+  waits : Other deadline
+  puts : (s : Store) (b : List ℕ) → Other (put s b)
+  pipes : (c : PipeCall) → Other (pipe c)
+  shows : (k : ℕ) (xs : List ℕ) → Other (samples k xs)
+
+pub data Which : Call → Type 0 where
+  says : (x : WordCall) → Which (word x)
+  other : {c : Call} → Other c → Which c
+
+pub which : (c : Call) → Which c
+which power = other powers
+which (packet b room) = other (sends b room)
+which deadline = other waits
+which (put s b) = other (puts s b)
+which (word x) = says x
+which (pipe c) = other (pipes c)
+which (samples k xs) = other (shows k xs)
+
 -- the port and what is lent to it are as they were
 pub record Kept (w v : World) : Type 0 where
-  pub on : v .pod .initialised ≡ w .pod .initialised
   pub words : v .pod .words ≡ w .pod .words
   pub desk : deskIn (v .lent) ≡ deskIn (w .lent)
 
-pub data Ported (w : World) : Call → Event → World → Type 0 where
-  apart : (c : Call) (e : Event) (v : World) → callWritten c ≡ [] → callReads c ≡ 0 → ((f : WordCall → Bool) → cuts f e ≡ false)
-      → Kept w v → Ported w c e v
-  ends : (c : Call) (e : Event) (v : World) → ((f : WordCall → Bool) → cuts f e ≡ true) → Ported w c e v
-  spoken : (x : WordCall) → Ported w (word x) (words x) (wording x w .world)
+-- what it is to an open transfer, by its event
+pub data Ported (w : World) : Event → World → Type 0 where
+  apart : (e : Event) (v : World) → ((f : WordCall → Bool) → cuts f e ≡ false) → Kept w v → Ported w e v
+  ends : (e : Event) (v : World) → ((f : WordCall → Bool) → cuts f e ≡ true) → v .pod .words .transfer ≡ Idle → v .lent .load ≡ w .lent .load
+      → Ported w e v
 
-kept : (w : World) → Kept w w
-kept w = record { on = refl; words = refl; desk = refl }
-
--- a refused call is no table word
-refused-ported : {w : World} → Fit w → (c : Call) (n : ℕ) → First n (rowsOf w c) → Ported w c nothing w
-unfolding cuts
-refused-ported {w} h power n f = apart power nothing w refl refl (λ g. refl) (kept w)
-refused-ported {w} h (packet b room) n f = apart (packet b room) nothing w refl refl (λ g. refl) (kept w)
-refused-ported {w} h deadline n f = apart deadline nothing w refl refl (λ g. refl) (kept w)
-refused-ported {w} h (put s b) n f = apart (put s b) nothing w refl refl (λ g. refl) (kept w)
-refused-ported {w} h (word x) n f = never-both f (fit-clear h x)
-refused-ported {w} h (pipe c) n f = apart (pipe c) nothing w refl refl (λ g. refl) (kept w)
-refused-ported {w} h (samples k xs) n f = apart (samples k xs) nothing w refl refl (λ g. refl) (kept w)
+still : (w : World) → Kept w w
+still w = record { words = refl; desk = refl }
 
 -- a command answered without error
-command-ported : (w : World) (b room : List ℕ) (c : Command) → Ported w (packet b room) (obeyedAs c) (obeying c room w .world)
-unfolding doneBy answered cuts
-command-ported w b room (Initialise f) = ends _ _ _ (λ g. refl)
-command-ported w b room Status = apart _ _ _ refl refl (λ g. refl) (record { on = refl; words = refl; desk = refl })
-command-ported w b room (Update f) = apart _ _ _ refl refl (λ g. refl) (record { on = refl; words = refl; desk = refl })
-command-ported w b room (Write id v) = apart _ _ _ refl refl (λ g. refl) (record { on = refl; words = refl; desk = refl })
-command-ported w b room (Read id) = apart _ _ _ refl refl (λ g. refl) (record { on = refl; words = refl; desk = refl })
-command-ported w b room Priority = apart _ _ _ refl refl (λ g. refl) (record { on = refl; words = refl; desk = refl })
-command-ported w b room Data = apart _ _ _ refl refl (λ g. refl) (record { on = refl; words = refl; desk = refl })
-command-ported w b room Shutdown = ends _ _ _ (λ g. refl)
+command-ported : (w : World) (room : List ℕ) (c : Command) → Ported w (obeyedAs c) (obeying c room w .world)
+unfolding doneBy answered cuts initialisedPod freshPod startWords closeOf
+command-ported w room (Initialise f) = ends _ _ (λ g. refl) refl refl
+command-ported w room Status = apart _ _ (λ g. refl) (record { words = refl; desk = refl })
+command-ported w room (Update f) = apart _ _ (λ g. refl) (record { words = refl; desk = refl })
+command-ported w room (Write id v) = apart _ _ (λ g. refl) (record { words = refl; desk = refl })
+command-ported w room (Read id) = apart _ _ (λ g. refl) (record { words = refl; desk = refl })
+command-ported w room Priority = apart _ _ (λ g. refl) (record { words = refl; desk = refl })
+command-ported w room Data = apart _ _ (λ g. refl) (record { words = refl; desk = refl })
+command-ported w room Shutdown = ends _ _ (λ g. refl) refl refl
 
-pub ported : {w : World} {c : Call} {s : Stepped} → Fit w → Happens w c s → Ported w c (eventOf c (s .told)) (s .world)
-unfolding eventOf cuts
-ported h (by-rows c n f) = refused-ported h c n f
-ported h (by-power k) = ends _ _ _ (λ g. refl)
-ported {w} h (by-empty b room k e) = rw e (apart _ _ _ refl refl (λ g. refl) (kept w))
-ported h (by-damage b room first n k e) = rw e (apart _ _ _ refl refl (λ g. refl) (record { on = refl; words = refl; desk = refl }))
-ported {w} h (by-acknowledgement b room first one k e) =
-    let u = acknowledged-untouched first one (w .pod) in
-    rw e (apart _ _ _ refl refl (λ g. refl) (record { on = u .initialised; words = u .words; desk = refl }))
-ported {w} h (by-check b room c n k e f) =
-    rw (e, error-fails room (commandRow c .code) n (room-at w b room k))
-    (apart _ _ _ refl refl (λ g. refl) (record { on = refl; words = refl; desk = refl }))
-ported {w} h (by-command b room c k e q) = rw (e, command-succeeds w room (room-at w b room k) c) (command-ported w b room c)
-ported h (by-deadline k) = apart _ _ _ refl refl (λ g. refl) (record { on = refl; words = refl; desk = refl })
-ported {w} h (by-put s b k) = apart _ _ _ refl refl (λ g. refl) (record { on = refl; words = refl; desk = refl })
-ported h (by-word x k) = spoken x
-ported h (by-pipe c k) = apart _ _ _ refl refl (λ g. refl) (record { on = refl; words = refl; desk = refl })
-ported {w} h (by-samples k xs q) = apart _ _ _ refl refl (λ g. refl) (kept w)
+pub ported : {w : World} {c : Call} {s : Stepped} → Other c → Happens w c s → Ported w (eventOf c (s .told)) (s .world)
+unfolding eventOf cuts freshPod startWords
+ported {w} o (by-rows c n f) = apart _ _ (λ g. refl) (still w)
+ported o (by-power k) = ends _ _ (λ g. refl) refl refl
+ported {w} o (by-empty b room k e) = rw e (apart _ _ (λ g. refl) (still w))
+ported o (by-damage b room first n k e) = rw e (apart _ _ (λ g. refl) (record { words = refl; desk = refl }))
+ported {w} o (by-acknowledgement b room first one k e) =
+    rw e (apart _ _ (λ g. refl) (record { words = acknowledged-untouched first one (w .pod) .words; desk = refl }))
+ported {w} o (by-check b room c n k e f) =
+    rw (e, error-fails room (commandRow c .code) n (room-at w b room k)) (apart _ _ (λ g. refl) (record { words = refl; desk = refl }))
+ported {w} o (by-command b room c k e q) = rw (e, command-succeeds w room (room-at w b room k) c) (command-ported w room c)
+ported o (by-deadline k) = apart _ _ (λ g. refl) (record { words = refl; desk = refl })
+ported o (by-put s b k) = apart _ _ (λ g. refl) (record { words = refl; desk = refl })
+ported o (by-pipe c k) = apart _ _ (λ g. refl) (record { words = refl; desk = refl })
+ported {w} o (by-samples k xs q) = apart _ _ (λ g. refl) (still w)

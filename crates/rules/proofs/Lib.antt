@@ -25,6 +25,11 @@ pub mod WordsAlike
 pub mod Twins
 pub mod Accepted
 pub mod NoTrace
+pub mod Holding
+pub mod Gathering
+pub mod LoadWhole
+pub mod LoadCut
 pub mod Sleepers
 pub mod Asleep
 pub mod Shown
+pub mod NotEmpty

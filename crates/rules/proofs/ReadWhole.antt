@@ -3,7 +3,7 @@
 use Prim.Native.Nat.{ℕ, zero, suc, _+_, _<_}
 use native.Mathlib.Nat.{add-zero, zero-add, add-assoc}
 use native.Mathlib.Omega.{arith}
-use mathlib.Core.Path.{_≡_, refl, sym, ap, _∙_}
+use mathlib.Core.Path.{_≡_, refl, sym, ap, _∙_, subst}
 use mathlib.Core.Bool.{true, false, not, cond}
 use mathlib.Core.List.{List, [], _∷_}
 use lib.Dec.{ltb, eqb}
@@ -19,7 +19,7 @@ use Rattle.tables.specs.declared.Order.the-variants.{Reading}
 use Rattle.tables.specs.declared.Given.the-variants.{Nowhere}
 use Rattle.tables.specs.declared.Transfer.the-variants.{Idle, Read}
 use Rattle.tables.specs.Tables.{Three, tablesSized, wordsOf, withReadPlace}
-use Rattle.tables.specs.Port.{Desk, Tabled, tabled, withTransfer, withPlaces, withGiven, dataCount, closeOf, readOpened, orderObeyed, tablesAfter, commandOf, readWord, readNext, wordGiven, statusOf}
+use Rattle.tables.specs.Port.{Desk, Tabled, tabled, withTransfer, withPlaces, withGiven, dataCount, closeOf, readOpened, readOpenedAt, orderObeyed, tablesAfter, commandOf, readWord, readNext, wordGiven, statusOf}
 use Rattle.tables.proofs.Obeying.{obeyed, given-by}
 use Rattle.tables.proofs.Reading.{read-taken, read-first, read-second, read-third, read-data}
 use Rattle.rules.specs.State.{soundPod, deskIn, withWords, withDesk}
@@ -31,7 +31,16 @@ use Rattle.rules.specs.Transfers.{Fit, cuts, cutsRead, leftOpen, callRea
 use Rattle.rules.specs.Demands.{ReadWhole, ReadEnds, ReadMoves}
 use Rattle.rules.proofs.Happens.{happens, wording}
 use Rattle.rules.proofs.Sound.{sound-next}
-use Rattle.rules.proofs.Between.{final-then, word-fit, Ported, apart, ends, spoken, ported}
+use Rattle.rules.proofs.Between.{final-then, word-fit, Other, powers, sends, waits, puts, pipes, shows, Which, says, other, which, Ported, apart, ends, ported}
+
+-- no other call than a table word reads one
+reads-none : {c : Call} → Other c → callReads c ≡ 0
+reads-none powers = refl
+reads-none (sends b room) = refl
+reads-none waits = refl
+reads-none (puts s b) = refl
+reads-none (pipes c) = refl
+reads-none (shows k xs) = refl
 
 module _ (h : Header) (at : ℕ) (places : Places) where
   -- the read is open, k words of it read, its place moved and the given address used up
@@ -75,19 +84,25 @@ module _ (h : Header) (at : ℕ) (places : Places) where
       (ap (λ (x : Words). x .given) v ∙ o .given)
   word-along status w k e l s o = stays _ w (k + 0) (o .fit) s refl (o .transfer ∙ ap (λ (j : ℕ). Read h j at) (sym (add-zero k))) (o .moved) (o .given)
 
-  -- any call that does not
-  call-along : {w v : World} {c : Call} {e : Event} → Ported w c e v → (k : ℕ) → cuts cutsRead e ≡ false → k + callReads c < h .n → soundPod (v .pod) ≡ true
-      → Along w k → Along v (k + callReads c)
-  unfolding cuts
-  call-along {w} (apart c e v a b f q) k i l s o =
-      rw (b, add-zero k)
-      (stays v w k (o .fit) s (q .desk) (ap (λ (x : Words). x .transfer) (q .words) ∙ o .transfer) (ap (λ (x : Words). x .places) (q .words) ∙ o .moved)
-      (ap (λ (x : Words). x .given) (q .words) ∙ o .given))
-  call-along (ends c e v f) k i l s o = never (f cutsRead) i
-  call-along {w} (spoken x) k i l s o = word-along x w k i l s o
+  -- any other call that does not
+  other-along : {w v : World} {e : Event} → Ported w e v → (k : ℕ) → cuts cutsRead e ≡ false → soundPod (v .pod) ≡ true → Along w k → Along v k
+  other-along {w} (apart e v f q) k i s o =
+      stays v w k (o .fit) s (q .desk) (ap (λ (x : Words). x .transfer) (q .words) ∙ o .transfer) (ap (λ (x : Words). x .places) (q .words) ∙ o .moved)
+      (ap (λ (x : Words). x .given) (q .words) ∙ o .given)
+  other-along (ends e v f t l) k i s o = never (f cutsRead) i
+
+  call-along : (w : World) (k : ℕ) {c : Call} → Which c → cuts cutsRead (eventOf c (step w c .told)) ≡ false → k + callReads c < h .n
+      → soundPod (next w c .pod) ≡ true → Along w k → Along (next w c) (k + callReads c)
+  unfolding eventOf cuts
+  call-along w k (says x) e l s o =
+      subst (λ (y : Stepped). cuts cutsRead (eventOf (word x) (y .told)) ≡ false → soundPod (y .world .pod) ≡ true → Along (y .world) (k + callReads (word x)))
+      (sym (word-fit w (o .fit) x)) (λ i j. word-along x w k i l j o) e s
+  call-along w k {c} (other q) e l s o =
+      rw (reads-none q, add-zero k) (other-along (ported q (happens w c)) k e s o)
 
   -- and any list of them
-  along : (cs : List Call) (w : World) (k : ℕ) → leftOpen cutsRead (events w cs) ≡ true → k + readsIn cs < h .n → Along w k → Along (final w cs) (k + readsIn cs)
+  along : (cs : List Call) (w : World) (k : ℕ) → leftOpen cutsRead (events w cs) ≡ true → k + readsIn cs < h .n → Along w k
+      → Along (final w cs) (k + readsIn cs)
   unfolding final events leftOpen readsIn
   along [] w k e l o = rw (add-zero k) o
   along (c ∷ cs) w k e l o =
@@ -95,7 +110,7 @@ module _ (h : Header) (at : ℕ) (places : Places) where
       let b = leftOpen cutsRead (events (next w c) cs) in
       rw (← add-assoc k (callReads c) (readsIn cs))
       (along cs (next w c) (k + callReads c) (and-right a b e) (omega arith)
-      (call-along (ported (o .fit) (happens w c)) k (not-true (and-left a b e)) (omega arith) (sound-next w c (o .fit .sound)) o))
+      (call-along w k (which c) (not-true (and-left a b e)) (omega arith) (sound-next w c (o .fit .sound)) o))
 
 -- the word of a read that the pod gives is that of the paper
 word-shown : (h : Header) (at : ℕ) (s : Three) (k : ℕ) → readWord h at (wordsOf (h .table) s) k ≡ wordShown h at s k
@@ -125,17 +140,14 @@ module _ (w : World) (x : ℕ) (h : Header) (at : ℕ) (cs : List Call) (r : Rea
   abbrev opened : Words
   opened = withGiven Nowhere (withPlaces behind (withTransfer (Read h 0 at) (closeOf (w .pod .words))))
 
-  is-opened : commandOf (w .pod .initialised) x (tabled (w .pod .words) (deskIn (w .lent))) ≡ tabled opened (deskIn (w .lent))
-  unfolding orderObeyed readOpened tablesAfter closeOf
-  is-opened =
-      rw (r .awake)
-      (obeyed (Reading (h .table) (h .n)) true x (tabled (w .pod .words) (deskIn (w .lent))) (r .asked)
-      ∙ rw (← r .begun) (ap (λ (v : Words). tabled v (deskIn (w .lent))) (read-taken h at (closeOf (w .pod .words)) (r .within))))
+  is-opened : wording (command x) w ≡ stepped (gave done) [] (withWords opened (w .pod)) (w .lent)
+  unfolding wordOf commandOf orderObeyed readOpened readOpenedAt tablesAfter closeOf
+  is-opened = rw (r .awake, r .asked, ← r .begun, r .within)
 
   begins : Along h at behind (next w (word (command x))) 0
-  unfolding wordOf closeOf
+  unfolding closeOf
   begins =
-      let so = word-fit w (r .fit) (command x) ∙ ap (λ (y : Tabled). stepped (gave done) [] (withWords (y .words) (w .pod)) (withDesk (y .desk) (w .lent))) is-opened in
+      let so = word-fit w (r .fit) (command x) ∙ is-opened in
       let port = ap (λ (y : Stepped). y .world .pod .words) so in
       stays h at behind (next w (word (command x))) w 0 (r .fit) (sound-next w (word (command x)) (r .fit .sound)) (ap (λ (y : Stepped). deskIn (y .world .lent)) so)
       (ap (λ (v : Words). v .transfer) port) (ap (λ (v : Words). v .places) port) (ap (λ (v : Words). v .given) port)

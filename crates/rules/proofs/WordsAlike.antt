@@ -72,11 +72,11 @@ module _ (h : Header) (d e : List ℕ) (least : 4 ≤ h .n) (g : take (h .n) d �
   word-same : (i : ℕ) → i < h .n → getD d i 0 ≡ getD e i 0
   word-same i k = sym (getD-take (h .n) d i 0 k) ∙ ap (λ (l : List ℕ). getD l i 0) g ∙ getD-take (h .n) e i 0 k
 
-  right-same : loadRight h d ≡ loadRight h e
+  pub right-same : loadRight h d ≡ loadRight h e
   unfolding loadRight
   right-same = rw (word-same 0 (omega arith), word-same 1 (omega arith), word-same 2 (omega arith))
 
-  stored-same : (t : List ℕ) → storedIn h d t ≡ storedIn h e t
+  pub stored-same : (t : List ℕ) → storedIn h d t ≡ storedIn h e t
   unfolding storedIn
   stored-same t =
       let all : 3 + dataCount h ≡ h .n = omega arith in
@@ -94,7 +94,7 @@ pub data SameDesk : Out Given Words Desk → Out Given Words Desk → Type 0 whe
 NoneCame : Words → Type 0
 NoneCame w = cameOf (w .transfer) ≡ 0
 
-obeyed-none : (o : Order) (w : Words) → cameOf (orderObeyed o (closeOf w) .transfer) ≡ 0
+pub obeyed-none : (o : Order) (w : Words) → cameOf (orderObeyed o (closeOf w) .transfer) ≡ 0
 unfolding orderObeyed closeOf restarted readOpened readOpenedAt NoneCame
 obeyed-none Other w = refl
 obeyed-none Stop w = refl
@@ -104,7 +104,7 @@ obeyed-none (Writing t n) w = refl
 obeyed-none (Reading t n) w = by-test NoneCame (fits t _ (n - 3)) (λ e. refl) (λ e. refl)
 
 -- nor after a data word read
-given-none : (u : Transfer) (w : Words) (t : Three) → cameOf (wordGiven u w t .words .transfer) ≡ 0
+pub given-none : (u : Transfer) (w : Words) (t : Three) → cameOf (wordGiven u w t .words .transfer) ≡ 0
 unfolding wordGiven wrongWay readNext
 given-none Idle w t = refl
 given-none Address w t = refl

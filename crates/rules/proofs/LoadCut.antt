@@ -1,0 +1,111 @@
+-- Demand 2: a load cut short leaves nothing behind: while it is open none of its words stands in a table, and from the call on that
+-- closes it all is told as if no word of it had come.
+-- Assumes nothing.
+use Prim.Native.Nat.{ℕ, _+_, _<_}
+use native.Mathlib.Omega.{arith}
+use mathlib.Core.Path.{_≡_, refl, sym, ap, _∙_, subst}
+use mathlib.Core.Bool.{true}
+use mathlib.Core.List.{List, _∷_}
+use lib.ListN.{length}
+use lib.Seq.{sets, length-sets}
+use Rattle.rows.proofs.Bool.{never}
+use Rattle.tables.specs.declared.Header.{Header}
+use Rattle.tables.specs.declared.Transfer.{Transfer}
+use Rattle.tables.specs.declared.Transfer.the-variants.{Load}
+use Rattle.tables.specs.Command.{orderHeard}
+use Rattle.tables.specs.Port.{Desk, closeOf, wrongWay, commandOf, wordGiven, dataOutOf}
+use Rattle.rules.specs.Families.{WordCall, command, dataIn, dataOut, status, wordOf}
+use Rattle.rules.specs.World.{World, Call, word, Stepped, step, next, final, run}
+use Rattle.rules.specs.History.{Event, eventOf, events}
+use Rattle.rules.specs.Transfers.{cuts, cutsLoad, leftOpen, writtenIn, othersIn}
+use Rattle.rules.specs.Demands.{LoadCut}
+use Rattle.rules.proofs.Happens.{happens, wording}
+use Rattle.rules.proofs.WordsAlike.{cameOf, none-came, obeyed-none, given-none}
+use Rattle.rules.proofs.Twins.{twin, Same, same-run}
+use Rattle.rules.proofs.Between.{word-fit, word-event, Which, says, other, which, Ported, apart, ends, ported}
+use Rattle.rules.proofs.Holding.{hold, beside, held, other-held}
+use Rattle.rules.proofs.Gathering.{Open, along, fit-along, passes}
+
+-- a call's outcome with other words of a load
+abbrev stale : List ℕ → Stepped → Stepped
+stale l s = record { told = s .told; world = hold (s .world .pod .words .transfer) l (s .world) }
+
+-- where none has come that is never told
+stale-same : (l : List ℕ) (s : Stepped) → cameOf (s .world .pod .words .transfer) ≡ 0 → length l ≡ length (s .world .lent .load) → Same (stale l s) s
+stale-same l s none long =
+    record {
+      points = refl;
+      twins = twin (s .world .pod) (stale l s .world .lent) (s .world .lent)
+          (record { priority = record { size = refl; blocks = refl }; ordinary = record { size = refl; blocks = refl }; load = none-came _ none long });
+    }
+
+module _ (h : Header) (k : ℕ) (l : List ℕ) (z : World) (o : Open h z) (long : length l ≡ 64) (more : k < h .n) where
+  -- so the call that closes the load is told the same, and all behind it
+  closed-same : (c : Call) → step (along h k l z) c ≡ stale l (step z c) → cameOf (next z c .pod .words .transfer) ≡ 0 → next z c .lent .load ≡ z .lent .load
+      → Same (step (along h k l z) c) (step z c)
+  closed-same c so none kept =
+      subst (λ (s : Stepped). Same s (step z c)) (sym so) (stale-same l (step z c) none (long ∙ sym (o .fit .load) ∙ sym (ap length kept)))
+
+  as-open : z ≡ along h 0 (z .lent .load) z
+  as-open = ap (λ (u : Transfer). hold u (z .lent .load) z) (o .transfer)
+
+  -- a table word that closes it
+  word-stale : (x : WordCall) → cutsLoad x ≡ true → wording x (along h k l z) ≡ stale l (wording x (along h 0 (z .lent .load) z))
+  unfolding wordOf commandOf closeOf dataOutOf wordGiven wrongWay
+  word-stale (command x) e = refl
+  word-stale (dataIn x) e = never e refl
+  word-stale dataOut e = refl
+  word-stale status e = never e refl
+
+  word-none : (x : WordCall) → cutsLoad x ≡ true → cameOf (wording x z .world .pod .words .transfer) ≡ 0
+  unfolding wordOf commandOf dataOutOf
+  word-none (command x) e = obeyed-none (orderHeard (z .pod .initialised) x) (z .pod .words)
+  word-none (dataIn x) e = never e refl
+  word-none dataOut e = given-none (z .pod .words .transfer) (z .pod .words) (z .lent .tables)
+  word-none status e = never e refl
+
+  word-load : (x : WordCall) → cutsLoad x ≡ true → wording x z .world .lent .load ≡ z .lent .load
+  unfolding wordOf commandOf
+  word-load (command x) e = refl
+  word-load (dataIn x) e = never e refl
+  word-load dataOut e = refl
+  word-load status e = never e refl
+
+  word-cut : (x : WordCall) → cutsLoad x ≡ true → Same (step (along h k l z) (word x)) (step z (word x))
+  word-cut x e =
+      let so = word-fit z (o .fit) x in
+      closed-same (word x)
+      (word-fit (along h k l z) (fit-along h k l z o long more) x ∙ word-stale x e ∙ ap (λ (v : World). stale l (wording x v)) (sym as-open) ∙ ap (stale l) (sym so))
+      (ap (λ (s : Stepped). cameOf (s .world .pod .words .transfer)) so ∙ word-none x e) (ap (λ (s : Stepped). s .world .lent .load) so ∙ word-load x e)
+
+  -- and any other call that does
+  other-cut : (c : Call) → step (along h k l z) c ≡ held (Load h k) l (step z c) → {e : Event} → Ported z e (next z c) → cuts cutsLoad e ≡ true
+      → Same (step (along h k l z) c) (step z c)
+  other-cut c so (apart e v f kept) i = never i (f cutsLoad)
+  other-cut c so (ends e v f t kept) i =
+      let with : Transfer → Stepped = λ u. record { told = step z c .told; world = hold u l (next z c) } in
+      closed-same c (so ∙ ap (λ (u : Transfer). with (beside (Load h k) u)) t ∙ sym (ap with t)) (ap cameOf t) kept
+
+  cut-same : {c : Call} → Which c → cuts cutsLoad (eventOf c (step (along h k l z) c .told)) ≡ true → Same (step (along h k l z) c) (step z c)
+  unfolding cuts
+  cut-same (says x) e = word-cut x (ap (cuts cutsLoad) (sym (word-event (along h k l z) (fit-along h k l z o long more) x)) ∙ e)
+  cut-same {c} (other q) e =
+      let so = other-held h k more l z 0 (omega arith) (o .transfer) q in
+      other-cut c so (ported q (happens z c)) (ap (λ (s : Stepped). cuts cutsLoad (eventOf c (s .told))) (sym so) ∙ e)
+
+-- a load cut anywhere, by whatever call: from there on it is as if no word of it had come
+pub load-cut : LoadCut
+load-cut w h bs c cs r =
+    let xs = writtenIn bs in
+    let k = 0 + length xs in
+    let l = sets (w .lent .load) 0 xs in
+    let z = final w (othersIn bs) in
+    let same = ap (λ (u : Transfer). hold u (w .lent .load) w) (r .begun) in
+    let still = subst (λ (v : World). leftOpen cutsLoad (events v bs) ≡ true) same (r .still) in
+    let part = passes h bs 0 (w .lent .load) w (record { fit = r .fit; transfer = r .begun }) (r .fit .load) still (omega (arith, r .short)) in
+    let long = length-sets (w .lent .load) 0 xs ∙ r .fit .load in
+    let so = ap (λ (v : World). final v bs) same ∙ part .is in (
+      ap (λ (v : World). v .lent .tables) so ∙ ap (λ (d : Desk). d .tables) (part .desk),
+      subst (λ (v : World). cuts cutsLoad (eventOf c (step v c .told)) ≡ true → run v (c ∷ cs) ≡ run z (c ∷ cs)) (sym so)
+          (λ e. same-run (along h k l z) z c cs (cut-same h k l z (part .stays) long (omega (arith, r .short)) (which c) e)),
+    )
