@@ -18,8 +18,10 @@ use Rattle.packets.specs.declared.Command.the-variants.{Initialise, Status, Upd
 use Rattle.packets.specs.declared.Fields.{Fields}
 use Rattle.packets.specs.Commands.{commandRow}
 use Rattle.params.specs.Rules.{writeAllowed, stored}
+use Rattle.tables.specs.declared.Places.{Places}
+use Rattle.tables.specs.declared.Given.{Given}
 use Rattle.tables.specs.Tables.{starts}
-use Rattle.tables.specs.Port.{closeOf}
+use Rattle.tables.specs.Port.{withPlaces, withGiven, closeOf}
 use Rattle.pipe.specs.Input.{sentBytes}
 use Rattle.rules.specs.declared.Pod.{Pod}
 use Rattle.rules.specs.declared.Exchange.{Exchange}
@@ -45,9 +47,12 @@ Waits x p = WaitsIn x (p .priority) (p .ordinary) (p .fields)
 
 pub data Eventful (w : World) : Event → World → Type 0 where
   quiet : Eventful w nothing w
-  anew : (b : Bool) (f : Fields) → Eventful w (begins b f) (world (withFields f (withInitialised b freshPod)) (withTables starts (w .lent)))
-  slept : w .pod .initialised ≡ true
-      → Eventful w sleeps (world (withInitialised false (withWords (closeOf (w .pod .words)) (shut (w .pod)))) (w .lent))
+  -- read places and given address are of no concern to a history
+  anew : (b : Bool) (f : Fields) {x : Places} {g : Given}
+      → Eventful w (begins b f)
+      (world (withWords (withGiven g (withPlaces x (freshPod .words))) (withFields f (withInitialised b freshPod))) (withTables starts (w .lent)))
+  slept : w .pod .initialised ≡ true → {g : Given}
+      → Eventful w sleeps (world (withInitialised false (withWords (withGiven g (closeOf (w .pod .words))) (shut (w .pod)))) (w .lent))
   updated : (f : Fields) → Eventful w (updates f) (world (withFields f (shut (w .pod))) (w .lent))
   wrote : (id : ℕ) (v : ℤ) → writeAllowed (w .pod .params) id v ≡ true
       → Eventful w (writes id v) (world (withParams (stored (w .pod .params) id v) (shut (w .pod))) (w .lent))

@@ -25,6 +25,7 @@ use Rattle.params.specs.Rules.{soundParams, writeAllowed, stored, writeOf}
 use Rattle.params.proofs.Laws.{write-sound}
 use Rattle.tables.specs.declared.Answered.{Answered}
 use Rattle.tables.specs.Port.{Desk, Tabled, tabled, statusOf}
+use Rattle.tables.specs.Bounds.{soundWords}
 use Rattle.tables.proofs.Kept.{close-sound, command-sound, data-in-sound, data-out-sound}
 use Rattle.tables.proofs.Closing.{close-idle, off-idle, idle-in, idle-out, wrong-idle}
 use Rattle.tables.proofs.Limits.{sound-places, sound-transfer, both-sound}
@@ -52,8 +53,8 @@ stored-sound q id v e h = rw e at (write-sound q id v h)
 
 -- a command, an open exchange being closed, that passes its checks
 command-in : (c : Command) (l : Lent) (p : Pod) → Clear (checksOf c p) → p .exchange ≡ Closed → PodIn p → PodIn (doneBy c l p .pod)
-unfolding checksOf doneBy initialisedPod
-command-in (command.Initialise f) l p (past k none) shut h = anew-in true f (not-false k)
+unfolding checksOf doneBy initialisedPod soundWords
+command-in (command.Initialise f) l p (past k none) shut h = anew-in true f _ (not-false k)
 command-in command.Status l p (past on none) shut h = in-open h Status (not-false on)
 command-in (command.Update f) l p (past on (past k none)) shut h = in-fields h f (not-false k)
 command-in (command.Write id v) l p (past on (past k none)) shut h = in-params h _ (stored-sound (p .params) id v (not-false k) (h .params))
