@@ -76,12 +76,8 @@ last-word h k xs y z o count last =
 
 module _ (w : World) (x : ℕ) (h : Header) (cs : List Call) (r : Loads w x h cs) where
   is-opened : next w (word (command x)) ≡ opened h w
-  unfolding wordOf orderObeyed tablesAfter
-  is-opened =
-      ap (λ (s : Stepped). s .world) (word-fit w (r .fit) (command x))
-      ∙ ap (λ (s : Tabled). laid s w)
-      (ap (λ (on : Bool). commandOf on x (tabled (w .pod .words) (deskIn (w .lent)))) (r .awake)
-      ∙ obeyed (Writing (h .table) (h .n)) true x (tabled (w .pod .words) (deskIn (w .lent))) (r .asked))
+  unfolding wordOf commandOf orderObeyed tablesAfter
+  is-opened = ap (λ (s : Stepped). s .world) (word-fit w (r .fit) (command x)) ∙ rw (r .awake, r .asked)
 
   is-open : Open h (opened h w)
   is-open =

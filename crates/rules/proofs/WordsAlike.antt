@@ -142,5 +142,5 @@ pub words-alike : (c : WordCall) (on : Bool) (w : Words) (t : Three) (d e : List
 unfolding wordOf commandOf dataInOf dataOutOf statusOf
 words-alike (command x) on w t d e ok g = same-desk done _ _ d e (none-came _ (obeyed-none (orderHeard on x) w) (g .long))
 words-alike (dataIn x) on w t d e ok g = taken-alike (w .transfer) x w t d e (sound-transfer w ok) g
-words-alike dataOut on w t d e ok g = same-desk _ _ t d e (none-came _ (given-none (w .transfer) w t) (g .long))
-words-alike status on w t d e ok g = same-desk _ _ t d e g
+words-alike dataOut on w t d e ok g = same-desk _ _ _ d e (none-came _ (given-none (w .transfer) w t) (g .long))
+words-alike status on w t d e ok g = same-desk _ _ _ d e g

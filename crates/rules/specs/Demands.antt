@@ -224,9 +224,13 @@ NoTrace =
     (f : Fields) (b room : List ℕ) (v w : World) → keptIn v ≡ keptIn w → Accepts f b room v → Accepts f b room w
     → (cs : List Call) → run v (packet b room ∷ cs) ≡ run w (packet b room ∷ cs)
 
--- a pod just powered, with all that is lent empty
+-- all that is lent, empty
+abbrev pub blank : Lent
+blank = record { priority = replicate 4096 0; ordinary = replicate 32768 0; tables = starts; load = replicate 64 0 }
+
+-- a pod just powered
 abbrev pub justPowered : World
-justPowered = powered (record { priority = replicate 4096 0; ordinary = replicate 32768 0; tables = starts; load = replicate 64 0 })
+justPowered = powered blank
 
 -- "and are those of demand 2": those of a pod just powered, of which demand 2 speaks, that gets the same Initialise
 abbrev pub AsFromPower : Type 0
