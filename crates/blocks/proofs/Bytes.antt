@@ -8,7 +8,7 @@ use lib.ListN.{length, take, drop, getD, set, length-drop}
 use lib.Seq.{sets, sets-eq, length-sets, ext-getD, getD-take, getD-drop, getD-set-other, length-take-le, take-at, drop-at}
 use lib.Dec.{ltb}
 use borrow.Author.Tests.{ltb-true, ltb-false}
-use Rattle.blocks.proofs.Places.{split}
+use Rattle.rows.proofs.Bool.{split}
 use Rattle.blocks.specs.Stores.{blockAt}
 
 -- one store more at the end of a run

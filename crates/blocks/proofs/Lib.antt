@@ -2,4 +2,3 @@ pub mod Places
 pub mod Bytes
 pub mod Line
 pub mod Laws
-pub mod Shown

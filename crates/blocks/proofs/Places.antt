@@ -1,33 +1,24 @@
 -- Places in a store of n blocks: where they are, and which are apart.
 use Prim.Native.Nat.{ℕ, _+_, _-_, _≤_, _<_}
 use native.Mathlib.Omega.{arith}
-use mathlib.Core.Path.{_≡_, refl}
-use mathlib.Core.Bool.{Bool, true, false, _&&_, false≢true}
+use mathlib.Core.Path.{_≡_}
+use mathlib.Core.Bool.{true}
 use lib.Dec.{ltb, leb}
 use borrow.Author.Tests.{ltb-true, ltb-false, leb-true, lt-ltb, le-ltb, le-leb}
+use Rattle.rows.proofs.Bool.{split, and-left, and-right}
 use Rattle.blocks.specs.declared.Ring.{Ring}
 use Rattle.blocks.specs.Stores.{soundRing, placeBehind}
-
-both : (a b : Bool) → (a && b) ≡ true → (a ≡ true) × (b ≡ true)
-both true b h = (refl, h)
-both false b h = absurd (false≢true h)
 
 -- the bounds of a sound ring, as facts
 pub bounds : (n : ℕ) (r : Ring) → soundRing n r ≡ true → (r .oldest < n) × (r .waiting ≤ n)
 unfolding soundRing
 bounds n r h =
-    let t = both (ltb (r .oldest) n) (leb (r .waiting) n) h in
-    (ltb-true (r .oldest) n (t .0), leb-true (r .waiting) n (t .1))
+    (ltb-true (r .oldest) n (and-left (ltb (r .oldest) n) (leb (r .waiting) n) h), leb-true (r .waiting) n (and-right (ltb (r .oldest) n) (leb (r .waiting) n) h))
 
 -- a ring within its bounds is sound
 pub within : (n : ℕ) (r : Ring) → r .oldest < n → r .waiting ≤ n → soundRing n r ≡ true
 unfolding soundRing
 within n r h k = simp (lt-ltb _ _ h, le-leb _ _ k)
-
--- by cases on a test
-pub split {ℓ} : {C : Type ℓ} (b : Bool) → (b ≡ true → C) → (b ≡ false → C) → C
-split true f g = f refl
-split false f g = g refl
 
 pub place-on : (n i k : ℕ) → i + k < n → placeBehind n i k ≡ i + k
 unfolding placeBehind

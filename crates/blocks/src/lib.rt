@@ -65,7 +65,7 @@ fn place(capacity: usize, from: usize, k: usize) -> usize
 }
 
 // Copies a block into the store, from a byte on.
-fn copy_in(block: &[u8], store: &mut [u8], from: usize)
+fn copy_in(store: &mut [u8], from: usize, block: &[u8])
     requires { ⌜ (length (now block) ≡ 256) × (from + 256 ≤ length (now store)) ⌝ }
     ensures { λ _. ⌜ now (store .exit) ≡ sets (now (store .entry)) from (now (block .entry)) ⌝ }
 {
@@ -87,7 +87,7 @@ pub fn put(capacity: usize, ring: Ring, store: &mut [u8], block: &[u8]) -> Ring
     let waiting = ring.waiting;
     let more = waiting + 1;
     let behind = place(capacity, oldest, waiting);
-    copy_in(block, store, behind * BLOCK);
+    copy_in(store, behind * BLOCK, block);
     Ring {
         oldest,
         waiting: more,
@@ -104,7 +104,7 @@ fn block_at(store: &[u8], at: usize) -> &[u8]
 }
 
 // The oldest block, as a part of whichever of the two stores is asked for.
-pub fn oldest<'a>(priority: &'a [u8], ordinary: &'a [u8], which: Store, ring: Ring) -> &'a [u8]
+pub fn oldest<'a>(which: Store, ring: Ring, priority: &'a [u8], ordinary: &'a [u8]) -> &'a [u8]
     requires { ⌜ (length (now priority) ≡ capacityOf Store.Priority * 256) × (length (now ordinary) ≡ capacityOf Store.Ordinary * 256) ⌝ }
     requires { ⌜ (soundRing (capacityOf which) ring ≡ true) × (0 < ring .waiting) ⌝ }
     ensures { λ r. ⌜ now r ≡ oldestOf (capacityOf which) ring (storeOf which (now (priority .entry)) (now (ordinary .entry))) ⌝ }

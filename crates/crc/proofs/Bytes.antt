@@ -1,6 +1,6 @@
 -- The bytes of a number: cut in two, joined, and into the register.
 -- Assumes nothing.
-use mathlib.Core.Path.{_≡_, refl, sym, ap, ap₂, _∙_}
+use mathlib.Core.Path.{_≡_, refl, sym, ap, _∙_}
 use mathlib.Core.List.{List, [], _∷_, _++_, append-assoc, append-nil}
 use Prim.Native.Nat.{ℕ, zero, suc, _+_, _*_, _/_, _%_, _^_, _<_, _≤_}
 use native.Mathlib.Nat.{add-comm, zero-add, suc-add, mul-assoc, add-mul}
@@ -10,8 +10,8 @@ use lib.ListN.{length, getD, take, drop, take-append-drop}
 use lib.Seq.{drop-cons, drop-drop}
 use lib.Pow.{pow-add, shl-exact, shl-lt, shr-shr, field, mod-mod-pow, high, low}
 use Rattle.crc.specs.Crc.{crcFrom}
-use Rattle.crc.specs.Fold.{bytesOf}
-use Rattle.crc.proofs.Register.{byteIn, byteIn-xor, from-none, from-one, from-append}
+use Rattle.crc.specs.Bytes.{bytesOf}
+use Rattle.crc.proofs.Register.{byteIn-xor, from-none, from-one, from-append}
 
 -- a number below 256 is its one byte
 pub one-byte : (b : ℕ) → b < 256 → bytesOf 1 b ≡ b ∷ []

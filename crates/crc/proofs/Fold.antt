@@ -1,13 +1,14 @@
 -- The shifts of the code: each is a linear function, and so equal to what the register does once it is at the powers of 2.
 -- Assumes nothing.
 use mathlib.Core.Path.{_≡_, refl, sym, ap, ap₂, _∙_}
-use mathlib.Core.List.{[], _∷_, _++_}
+use mathlib.Core.List.{[], _∷_}
 use Prim.Native.Nat.{ℕ, _+_, _*_, _/_, _%_, _^_, _<_}
+use native.Mathlib.Nat.{div-le-self, mod-lt}
 use native.Mathlib.Omega.{arith}
-use lib.Bits.{bitXor, xor-zero-r}
-use lib.Pow.{high, low}
+use lib.Bits.{bitXor, xor-zero-r, xor-lt}
+use lib.Pow.{high, low, pow-pos}
 use Rattle.crc.specs.Crc.{poly, leaving, bitIn, bits, bitsIn, crcFrom}
-use Rattle.crc.specs.Fold.{bytesOf, fold}
+use Rattle.crc.specs.Bytes.{bytesOf}
 use Rattle.crc.proofs.Linear.{Linear, lin-down, lin-low, lin-up, lin-sum, lin-then, basis}
 use Rattle.crc.proofs.Register.{byteIn, byteIn-xor, from-one}
 use Rattle.crc.proofs.Bytes.{both-xor}
@@ -56,11 +57,15 @@ by-shifts c b h l = rw (high c 8 l, low c 8 l) at (both-at (c * 2 ^ 8 + b) (omeg
 
 -- ---- the register of 64 bits
 
+-- a number of 64 bits stands for the register that its eight bytes leave in an empty one
+unfoldable pub fold : ℕ → ℕ
+fold s = crcFrom 0 (bytesOf 8 s)
+
 fold-lin : Linear fold
 unfolding fold
 fold-lin a b = both-xor 8 0 0 a b
 
--- the shifts of a register of n times 16 bits, and as many zero bits more: `two` has n 1, `lift` 4
+-- the shifts of a register of n times 16 bits, and as many zero bits more: `two` has n 1, `crc_of` 4
 abbrev half : ℕ → ℕ → ℕ
 half n s = bitXor s (s / 2 ^ (4 * n))
 
@@ -95,8 +100,8 @@ raised : (s : ℕ) → s < 2 ^ 16 → rest 1 (quotient 1 s) ≡ crcFrom s (bytes
 unfolding bytesOf crcFrom bitsIn bits bitIn leaving poly
 raised = basis (λ s. rest 1 (quotient 1 s)) (λ s. crcFrom s (bytesOf 2 0)) (raised-lin 1) (zeros-lin 2) 16 tt
 
--- eight zero bytes more, by the shifts of `lift`
-pub lifted : (s : ℕ) → s < 2 ^ 64 → fold (rest 4 (quotient 4 s)) ≡ crcFrom (fold s) (bytesOf 8 0)
+-- eight zero bytes more, by the shifts of `crc_of`
+lifted : (s : ℕ) → s < 2 ^ 64 → fold (rest 4 (quotient 4 s)) ≡ crcFrom (fold s) (bytesOf 8 0)
 unfolding fold bytesOf crcFrom bitsIn bits bitIn leaving poly
 lifted =
     basis (λ s. fold (rest 4 (quotient 4 s))) (λ s. crcFrom (fold s) (bytesOf 8 0))
@@ -118,8 +123,24 @@ unfolding fold
 added s w = sym (both-xor 8 (fold s) 0 0 w) ∙ ap (λ (x : ℕ). crcFrom x (bytesOf 8 w)) (xor-zero-r (fold s))
 
 -- and eight bytes that are not zero are added to them
-pub eight-more : (s r w : ℕ) → fold r ≡ crcFrom (fold s) (bytesOf 8 0) → fold (bitXor r w) ≡ crcFrom (fold s) (bytesOf 8 w)
-eight-more s r w e = fold-lin r w ∙ ap (λ (x : ℕ). bitXor x (fold w)) e ∙ added s w
+pub eight-more : (s w : ℕ) → s < 2 ^ 64 → fold (bitXor (rest 4 (quotient 4 s)) w) ≡ crcFrom (fold s) (bytesOf 8 w)
+eight-more s w h = fold-lin (rest 4 (quotient 4 s)) w ∙ ap (λ (x : ℕ). bitXor x (fold w)) (lifted s h) ∙ added s w
+
+down-fits : (k s : ℕ) → s < 2 ^ 64 → s / 2 ^ k < 2 ^ 64
+down-fits k s h = let less = div-le-self s (2 ^ k) in omega arith
+
+up-fits : (k s : ℕ) → s * 2 ^ k % 2 ^ 64 < 2 ^ 64
+up-fits k s = mod-lt (s * 2 ^ k) (pow-pos 64)
+
+-- and it stays a register of 64 bits
+pub eight-fits : (s w : ℕ) → s < 2 ^ 64 → w < 2 ^ 64 → bitXor (rest 4 (quotient 4 s)) w < 2 ^ 64
+eight-fits s w h l =
+    let a = half 4 s in
+    let q = quotient 4 s in
+    let a-fits : a < 2 ^ 64 = xor-lt 64 s (s / 2 ^ 16) h (down-fits 16 s h) in
+    let q-fits : q < 2 ^ 64 = xor-lt 64 (bitXor a (a / 2 ^ 32)) (s / 2 ^ 44) (xor-lt 64 a (a / 2 ^ 32) a-fits (down-fits 32 a a-fits)) (down-fits 44 s h) in
+    xor-lt 64 (rest 4 q) w
+    (xor-lt 64 (bitXor q (q * 2 ^ 20 % 2 ^ 64)) (q * 2 ^ 48 % 2 ^ 64) (xor-lt 64 q (q * 2 ^ 20 % 2 ^ 64) q-fits (up-fits 20 q)) (up-fits 48 q)) l
 
 -- what stands in it at the start
 pub started : fold 33999 ≡ 65535

@@ -1,4 +1,3 @@
-pub mod Shown
 pub mod Laws
 pub mod Xor
 pub mod Linear

@@ -1,2 +1,2 @@
 pub mod Crc
-pub mod Fold
+pub mod Bytes

@@ -1,9 +1,9 @@
 // The register of 16 bits: one byte more, and two and four at once.
 ghost use mathlib.Core.Path.{_≡_};
 ghost use mathlib.Core.List.{[], _∷_};
-ghost use Prim.Native.Nat.{_/_, _%_};
+ghost use Prim.Native.Nat.{_/_};
 ghost use Rattle.crc.specs.Crc.{crcFrom};
-ghost use Rattle.crc.specs.Fold.{bytesOf};
+ghost use Rattle.crc.specs.Bytes.{bytesOf};
 
 fn high(c: u16) -> u8
     ensures { λ r. ⌜ r ≡ c / 256 ⌝ }

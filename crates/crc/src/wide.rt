@@ -1,13 +1,13 @@
-// A register of 64 bits, not yet reduced: eight bytes more are a few shifts.
+// A register of 64 bits: eight bytes as one number, and what a number leaves in the register of 16 bits.
 use crate::narrow::four;
 ghost use mathlib.Core.Path.{_≡_};
 ghost use mathlib.Core.List.{[], _∷_};
 ghost use lib.ListN.{length};
 ghost use Rattle.crc.specs.Crc.{crcFrom};
-ghost use Rattle.crc.specs.Fold.{bytesOf, fold};
+ghost use Rattle.crc.specs.Bytes.{bytesOf};
 
 pub fn fold_of(s: u64) -> u16
-    ensures { λ r. ⌜ r ≡ fold s ⌝ }
+    ensures { λ r. ⌜ r ≡ crcFrom 0 (bytesOf 8 s) ⌝ }
 {
     four(four(0, (s / 4294967296) as u32), (s % 4294967296) as u32)
 }
@@ -26,7 +26,7 @@ fn joined(a: u8, b: u8, c: u8, d: u8, e: u8, f: u8, g: u8, h: u8) -> u64
         | (h as u64)
 }
 
-fn word_of(part: &[u8]) -> u64
+pub fn word_of(part: &[u8]) -> u64
     requires { ⌜ length (now part) ≡ 8 ⌝ }
     ensures { λ r. ⌜ bytesOf 8 r ≡ now (part .entry) ⌝ }
 {
@@ -40,20 +40,4 @@ fn word_of(part: &[u8]) -> u64
         part[6],
         part[7],
     )
-}
-
-// Modulo the polynomial x ^ 64 is x ^ 48 + x ^ 20 + 1, its fourth power: so what falls out at the top comes in again below.
-fn lift(s: u64) -> u64
-    ensures { λ r. ⌜ fold r ≡ crcFrom (fold s) (bytesOf 8 0) ⌝ }
-{
-    let u = s ^ (s >> 16);
-    let h = u ^ (u >> 32) ^ (s >> 44);
-    h ^ (h << 20) ^ (h << 48)
-}
-
-pub fn eight_in(s: u64, part: &[u8]) -> u64
-    requires { ⌜ length (now part) ≡ 8 ⌝ }
-    ensures { λ r. ⌜ fold r ≡ crcFrom (fold s) (now (part .entry)) ⌝ }
-{
-    lift(s) ^ word_of(part)
 }

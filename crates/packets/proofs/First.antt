@@ -12,7 +12,7 @@ use lib.ListN.{length, getD}
 use Rattle.packets.specs.declared.Parsed.{Parsed}
 use Rattle.packets.specs.Commands.{CommandRow, commandRows, findIn, listedIn, codeRow, isCode, commandPlace, commandRow, parsedSaid}
 use Rattle.packets.specs.Reading.{first, second, crcRight, acknowledges, packetRead}
-use Rattle.packets.proofs.Rows.{split, by-test}
+use Rattle.rows.proofs.Bool.{split, by-test}
 
 pub not-empty : (p : List ℕ) → eqb (length p) 0 ≡ false → 0 < length p
 not-empty p z = omega (arith, eqb-false (length p) 0 z)

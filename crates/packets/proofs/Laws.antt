@@ -5,9 +5,9 @@ use native.Mathlib.Omega.{arith}
 use mathlib.Core.Path.{_≡_, refl, sym, ap, _∙_}
 use mathlib.Core.List.{List, [], _∷_}
 use mathlib.Core.Logic.{_⊎_, ⊎-elim}
-use mathlib.Core.Bool.{Bool, true, false, not, _&&_, _||_}
-use borrow.Author.Tests.{ltb-true, leb-true, le-leb, eqb-true, not-true}
-use lib.Dec.{ltb, leb, eqb}
+use mathlib.Core.Bool.{Bool, true, false, _&&_}
+use borrow.Author.Tests.{leb-true, le-leb, eqb-true}
+use lib.Dec.{leb, eqb}
 use lib.IntN.{ℤ, pos, negsuc}
 use lib.ListN.{length, getD, take, drop}
 use lib.Signed.{mag}
@@ -25,7 +25,7 @@ use Rattle.packets.specs.Answers.{withCrc, answerOf, errorAnswer, doneAn
 use Rattle.packets.proofs.Sendable.{Sendable}
 use Rattle.packets.proofs.Digits.{number-back}
 use Rattle.packets.proofs.Complement.{signed-back}
-use Rattle.packets.proofs.Rows.{split}
+use Rattle.rows.proofs.Bool.{split}
 use Rattle.packets.proofs.Checks.{empty, short, damaged}
 use Rattle.packets.proofs.Room.{answer-length}
 use Rattle.packets.proofs.Bodies.{status-body-length, value-body-length}
@@ -54,11 +54,6 @@ too-short = short
 pub crc-wrong : (p : List ℕ) → 0 < length p → crcRight p ≡ false → packetRead p ≡ Error (first p) 0x01
 crc-wrong = damaged
 
--- so check 2 as it stands
-pub check-two : (p : List ℕ) → 0 < length p → (ltb (length p) 4 || not (crcRight p)) ≡ true → packetRead p ≡ Error (first p) 0x01
-check-two p n h =
-    split (ltb (length p) 4) (λ e. short p n (ltb-true (length p) 4 e)) (λ e. damaged p n (not-true (crcRight p) (simp e at h)))
-
 -- what is not empty is taken as something, and the first byte said is the packet's
 pub first-said : (p : List ℕ) → 0 < length p → getD (parsedSaid (packetRead p)) 1 (negsuc 0) ≡ pos (first p)
 first-said = named
@@ -81,11 +76,6 @@ taken-first p x e n =
 pub error-first : (p : List ℕ) (f n : ℕ) → packetRead p ≡ Error f n → f ≡ first p
 unfolding parsedSaid
 error-first p f n e = let x = taken-first p (Error f n) e (λ z. let y : _≡_ {A = ℕ} 0 1 = cc in omega arith) in cc
-
--- so has an acknowledgement
-pub acknowledgement-first : (p : List ℕ) (f : ℕ) (one : Bool) → packetRead p ≡ Acknowledgement f one → f ≡ first p
-unfolding parsedSaid
-acknowledgement-first p f one e = let x = taken-first p (Acknowledgement f one) e (λ z. let y : _≡_ {A = ℕ} 0 1 = cc in omega arith) in cc
 
 -- and a command's packet begins with its code
 pub asked-first : (p : List ℕ) (c : Command) → packetRead p ≡ Asked c → commandRow c .code ≡ first p
@@ -179,11 +169,6 @@ error-acknowledges = error-taken
 -- the bytes of a command that can be sent are read as that command
 pub sent-is-read : (c : Command) → Sendable c → packetRead (commandBytes c) ≡ Asked c
 sent-is-read = sent
-
--- but a Read of id 0x7E cannot be sent: its bytes are an acknowledgement
-pub read-126 : packetRead (commandBytes (Read 0x7E)) ≡ Acknowledgement 0x94 true
-unfolding commandBytes bodyOf commandRow commandPlace doneAnswer
-read-126 = done-taken 0x94 (omega arith) (omega arith)
 
 -- a command's bytes are as many as the table says
 pub bytes-listed : (c : Command) → length (commandBytes c) ≡ commandRow c .bytes

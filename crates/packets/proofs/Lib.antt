@@ -10,4 +10,3 @@ pub mod First
 pub mod Sendable
 pub mod Sent
 pub mod Laws
-pub mod Shown

@@ -3,20 +3,11 @@
 use Prim.Native.Nat.{ℕ}
 use mathlib.Core.Path.{_≡_, refl}
 use mathlib.Core.List.{List, [], _∷_}
-use mathlib.Core.Bool.{Bool, true, false, not, cond, _||_}
+use mathlib.Core.Bool.{true, false, not, or-false}
 use borrow.Author.Tests.{ne-eqb, eqb-true}
 use lib.Dec.{eqb}
+use Rattle.rows.proofs.Bool.{split}
 use Rattle.packets.specs.Commands.{CommandRow, commandRows, noCommandRow, findIn, listedIn, codeRow, isCode}
-
--- by cases on a test
-pub split {ℓ} : {C : Type ℓ} (b : Bool) → (b ≡ true → C) → (b ≡ false → C) → C
-split true f g = f refl
-split false f g = g refl
-
--- a fact of a choice from the fact of each branch
-pub by-test {ℓ ℓ′} : {A : Type ℓ} (P : A → Type ℓ′) (b : Bool) {x y : A} → (b ≡ true → P x) → (b ≡ false → P y) → P (cond b x y)
-by-test P true f g = f refl
-by-test P false f g = g refl
 
 -- a byte that is none of the eight codes has no row
 pub no-row : (k : ℕ) → (k ≡ 0x90 → ⊥) → (k ≡ 0x91 → ⊥) → (k ≡ 0x92 → ⊥) → (k ≡ 0x93 → ⊥) → (k ≡ 0x94 → ⊥)
@@ -31,10 +22,6 @@ pub last-code : (k : ℕ) → isCode k ≡ true → (k ≡ 0x90 → ⊥) → (k 
 unfolding isCode listedIn
 last-code k t a b c d e f g =
     eqb-true k 0x9F (simp (ne-eqb k 0x90 a, ne-eqb k 0x91 b, ne-eqb k 0x92 c, ne-eqb k 0x93 d, ne-eqb k 0x94 e, ne-eqb k 0x95 f, ne-eqb k 0x96 g, or-false (eqb k 0x9F)) at t)
-  where
-    or-false : (b : Bool) → (b || false) ≡ b
-    or-false true = refl
-    or-false false = refl
 
 -- no command has 0 bytes
 abbrev Filled : List CommandRow → Type 0

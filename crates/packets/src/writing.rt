@@ -33,7 +33,7 @@ fn close(room: &mut [u8], end: usize) -> usize
 }
 
 // All of a block, or of a list of ids, is copied from `at` on.
-fn copy(from: &[u8], to: &mut [u8], at: usize)
+fn copy(to: &mut [u8], at: usize, from: &[u8])
     requires { ⌜ at + length (now from) ≤ length (now to) ⌝ }
     ensures { λ _. ⌜ now (to .exit) ≡ sets (now (to .entry)) at (now (from .entry)) ⌝ }
 {
@@ -54,7 +54,7 @@ fn status_body(body: &mut [u8], report: Report)
     put_four(body, 5, report.ordinary);
     put_one(body, 9, 0);
     let ids = report.ids;
-    copy(&ids, body, 10);
+    copy(body, 10, &ids);
 }
 
 fn value_body(body: &mut [u8], id: u8, value: i32)
@@ -110,13 +110,13 @@ pub fn write_value(room: &mut [u8], first: u8, id: u8, value: i32) -> usize
     close(room, 7)
 }
 
-// The oldest block of a store.
+// A block.
 pub fn write_data(room: &mut [u8], first: u8, block: &[u8]) -> usize
     requires { ⌜ 260 ≤ length (now room) ⌝ }
     requires { ⌜ length (now block) ≡ 256 ⌝ }
     ensures { λ r. ⌜ Written (dataAnswer first (now (block .entry))) (now (room .entry)) (now (room .exit)) r ⌝ }
 {
     head(room, first, 0x01);
-    copy(block, &mut room[2..], 0);
+    copy(&mut room[2..], 0, block);
     close(room, 258)
 }

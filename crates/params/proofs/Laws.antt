@@ -16,6 +16,7 @@ use Rattle.params.specs.declared.Row.{Row}
 use Rattle.params.specs.declared.Params.{Params}
 use Rattle.params.specs.declared.Reading.{Reading}
 use Rattle.params.specs.declared.Reading.the-variants.{Held, Unknown}
+use Rattle.rows.proofs.Bool.{split, by-test}
 use Rattle.params.specs.Rows.{paramRows, paramIds, noParamRow, paramRow}
 use Rattle.params.specs.Rules.{isId, valueAt, marked, inRow, inSpan, inRows, soundParams, startParams, stored, writeAllowed, writeOf, outsideError, valueRead, readingSaid, filter, isMissing, missingIds, missingOf}
 
@@ -133,16 +134,6 @@ start-marks = refl
 
 -- ---- writes
 
--- by the value of a test
-by-test : {A : Type 0} (b : Bool) → (b ≡ true → A) → (b ≡ false → A) → A
-by-test true f g = f refl
-by-test false f g = g refl
-
--- what holds of both choices holds of the one that is taken
-by-cond : {A : Type 0} (P : A → Type 0) (b : Bool) {x y : A} → (b ≡ true → P x) → P y → P (cond b x y)
-by-cond P true f g = f refl
-by-cond P false f g = g
-
 module _ (p : Params) (id : ℕ) (v : ℤ) where
   -- a write of an id is taken exactly when the value is in its row and parameter 1 stays below parameter 2
   pub id-taken : isId id ≡ true → writeOf p id v .taken ≡ inRow (paramRow id) v && inSpan (stored p id v)
@@ -167,7 +158,7 @@ module _ (p : Params) (id : ℕ) (v : ℤ) where
   -- what holds of the state, and of the stored one where the write is taken, holds after the write
   pub by-write : (P : Params → Type 0) → (writeOf p id v .taken ≡ true → P (stored p id v)) → P p → P (writeOf p id v .params)
   unfolding writeOf
-  by-write P f g = by-cond P (writeAllowed p id v) f g
+  by-write P f g = by-test P (writeAllowed p id v) f (λ e. g)
 
   -- only ids are taken
   pub taken-id : writeOf p id v .taken ≡ true → isId id ≡ true
@@ -218,7 +209,7 @@ module _ (p : Params) (id : ℕ) (v : ℤ) where
     -- a write changes nothing that is read of another id
     pub other-read : valueRead (writeOf p id v .params) other ≡ valueRead p other
     other-read =
-        by-test (isId other)
+        split (isId other)
         (λ k. rw (id-held (writeOf p id v .params) other k, id-held p other k, other-value k))
         (λ k. rw (no-id-unknown (writeOf p id v .params) other k, no-id-unknown p other k))
 

@@ -1,12 +1,12 @@
 -- What each call gives, case by case.
 -- Assumes nothing.
 use Prim.Native.Nat.{ℕ, _≤_, _<_}
-use mathlib.Core.Path.{_≡_, refl}
-use mathlib.Core.Bool.{Bool, true, false, cond}
+use mathlib.Core.Path.{_≡_}
 use mathlib.Core.List.{[], _∷_, _++_}
 use native.Mathlib.Omega.{arith}
 use borrow.Author.Tests.{lt-ltb, le-ltb, eq-eqb, ne-eqb, ltb-true, ltb-false, eqb-true, eqb-false}
 use lib.Dec.{ltb, eqb}
+use Rattle.rows.proofs.Bool.{by-test}
 use Rattle.pipe.specs.declared.Input.{Input}
 use Rattle.pipe.specs.declared.Piped.{Piped}
 use Rattle.pipe.specs.Input.{heldIn, piped, emptyInput, gathers, pipeByte, countUp, pipeTimeout}
@@ -30,10 +30,6 @@ timeout-idle i h = simp (eq-eqb (i .gathered) 0 h)
 pub timeout-sends : (i : Input) → 1 ≤ i .gathered → pipeTimeout i ≡ piped (heldIn i) (emptyInput (countUp (i .timeouts)))
 unfolding pipeTimeout
 timeout-sends i h = simp (ne-eqb (i .gathered) 0 (λ e. omega arith))
-
-by-test : (P : Piped → Type 0) (t : Bool) {x y : Piped} → (t ≡ true → P x) → (t ≡ false → P y) → P (cond t x y)
-by-test P true f g = f refl
-by-test P false f g = g refl
 
 -- what holds of both cases of a byte holds of it
 pub byte-cases : (P : Piped → Type 0) (i : Input) (b : ℕ) → (i .gathered < 7 → P (piped [] (gathers i b))) → (7 ≤ i .gathered → P (piped (heldIn i ++ (b ∷ [])) (emptyInput (i .timeouts)))) → P (pipeByte i b)

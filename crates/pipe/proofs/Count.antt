@@ -66,7 +66,3 @@ one-by-one-from n (b ∷ bs) = let more = one-by-one-from (countUp n) bs in omeg
 pub one-by-one : (bs : List ℕ) → after freshInput (oneByOne bs) .timeouts ≡ min (length bs) 15
 unfolding freshInput
 one-by-one bs = counted-fresh (oneByOne bs) ∙ ap (λ (k : ℕ). min k 15) (one-by-one-from 0 bs)
-
--- P12: the fifteenth and the sixteenth timeout both show 15, whatever byte was gathered before each
-pub fifteen : (bs : List ℕ) → 15 ≤ length bs → after freshInput (oneByOne bs) .timeouts ≡ 15
-fifteen bs h = let shown = one-by-one bs in omega arith

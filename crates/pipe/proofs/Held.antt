@@ -5,10 +5,10 @@ use mathlib.Core.Path.{_≡_, refl}
 use mathlib.Core.List.{List, [], _∷_, _++_}
 use native.Mathlib.Omega.{arith}
 use native.Mathlib.Numerals.{add-one}
-use lib.ListN.{length, length-take, length-set, length-append, length-replicate}
+use lib.ListN.{length, length-take, length-set}
 use lib.Seq.{take-suc-set, take-append-seam}
 use Rattle.pipe.specs.declared.Input.{Input}
-use Rattle.pipe.specs.Input.{heldIn, sentPacket, sentBytes, emptyInput, freshInput, gathers, pipeByte, pipeTimeout}
+use Rattle.pipe.specs.Input.{heldIn, sentPacket, sentBytes, emptyInput, gathers, pipeByte, pipeTimeout}
 use Rattle.pipe.proofs.Cases.{byte-cases, timeout-cases}
 
 -- an input as the code can hold it within the bounds: an array of eight, and at most 7 gathered
@@ -38,16 +38,6 @@ pub listed : (xs : List ℕ) → sentBytes (sentPacket xs) ≡ xs
 unfolding sentBytes sentPacket
 listed xs = take-append-seam xs _
 
--- a packet counts its list
-pub count-packet : (xs : List ℕ) → sentPacket xs .count ≡ length xs
-unfolding sentPacket
-count-packet xs = refl
-
--- a packet of at most eight bytes is an array of eight
-pub length-packet : (xs : List ℕ) → length xs ≤ 8 → length (sentPacket xs .bytes) ≡ 8
-unfolding sentPacket
-length-packet xs h = simp (length-append, length-replicate) (omega arith)
-
 -- an emptied input is whole
 pub whole-empty : (n : ℕ) → Whole (emptyInput n)
 unfolding emptyInput
@@ -57,11 +47,6 @@ whole-empty n = record { long = refl; few = omega arith }
 pub whole-gathers : {i : Input} (b : ℕ) → i .gathered < 7 → Whole i → Whole (gathers i b)
 unfolding gathers
 whole-gathers {i} b l w = record { long = rw length-set (w .long); few = omega arith }
-
--- the fresh input is whole
-pub whole-fresh : Whole freshInput
-unfolding freshInput
-whole-fresh = whole-empty 0
 
 -- a byte keeps an input whole
 pub whole-byte : {i : Input} (b : ℕ) → Whole i → Whole (pipeByte i b .input)

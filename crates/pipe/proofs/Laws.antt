@@ -6,7 +6,6 @@ use mathlib.Core.Bool.{true, and-eq-true-iff}
 use mathlib.Core.List.{List, [], _∷_, _++_, map, flatten, append-assoc, append-nil}
 use native.Mathlib.Omega.{arith}
 use borrow.Author.Tests.{leb-true, le-leb}
-use lib.ListN.{length}
 use lib.Dec.{leb}
 use Rattle.pipe.specs.declared.Input.{Input}
 use Rattle.pipe.specs.Input.{heldIn, sentBytes, emptyInput, freshInput, gathers, pipeByte, countUp, pipeTimeout, soundInput}
@@ -26,10 +25,6 @@ sound-in i h =
 pub in-sound : (i : Input) → i .gathered ≤ 7 → i .timeouts ≤ 15 → soundInput i ≡ true
 unfolding soundInput
 in-sound i g t = rw (le-leb (i .gathered) 7 g, le-leb (i .timeouts) 15 t)
-
--- a sound input with an array of eight is whole
-pub sound-whole : (i : Input) → length (i .bytes) ≡ 8 → soundInput i ≡ true → Whole i
-sound-whole i e h = record { long = e; few = sound-in i h .0 }
 
 -- the fresh input is sound
 pub fresh-sound : soundInput freshInput ≡ true

@@ -29,10 +29,6 @@ pub record Same (p q : Piped) : Type 0 where
 pub alike-gathered : {i j : Input} → Alike i j → i .gathered ≡ j .gathered
 alike-gathered a = sym (length-held (a .left)) ∙ ap length (a .bytes) ∙ length-held (a .right)
 
--- an input is like itself
-pub alike-refl : {i : Input} → Whole i → Alike i i
-alike-refl w = record { left = w; right = w; bytes = refl; counts = refl }
-
 alike-empty : (m n : ℕ) → m ≡ n → Alike (emptyInput m) (emptyInput n)
 unfolding emptyInput heldIn
 alike-empty m n e = record { left = whole-empty m; right = whole-empty n; bytes = refl; counts = e }

@@ -12,10 +12,10 @@ use Rattle.blocks.proofs.copy_in.Statement.{statement}
 use Rattle.blocks.proofs.copy_in.Tie as tie
 
 abbrev Inv-loop : tie.InvT-loop
-Inv-loop block store₀ from j₀ store j = (j ≤ 256) × (store ≡ sets store₀ from (take j block)) × (length store ≡ length store₀)
+Inv-loop store₀ from block j₀ store j = (j ≤ 256) × (store ≡ sets store₀ from (take j block)) × (length store ≡ length store₀)
 
 abbrev μ-loop : tie.MeasureT-loop
-μ-loop block store₀ from j₀ store j = 256 - j
+μ-loop store₀ from block j₀ store j = 256 - j
 
 loop-holds : tie.Need-loop-holds Inv-loop μ-loop
 loop-holds c = (omega arith, refl, refl)

@@ -1,21 +1,21 @@
 -- `crc::crc_of` meets its contract: in both loops the rest of the bytes still brings the register to the value for all of them.
 -- Assumes nothing.
 use mathlib.Core.Path.{_≡_, sym, ap, _∙_}
-use Prim.Native.Nat.{ℕ, _+_, _-_, _≤_}
+use Prim.Native.Nat.{ℕ, _+_, _-_, _^_, _≤_, _<_}
 use native.Mathlib.Nat.{min-eq-left}
 use native.Mathlib.Omega.{arith}
 use borrow.Author.Needs.{needs}
 use lib.ListN.{length, take, drop, length-take, length-drop, drop-of-length-le}
 use Rattle.crc.specs.Crc.{crcFrom, crcOf}
-use Rattle.crc.specs.Fold.{fold}
+use Rattle.crc.specs.Bytes.{bytesOf}
 use Rattle.crc.proofs.Register.{from-none}
 use Rattle.crc.proofs.Bytes.{places-are, more}
-use Rattle.crc.proofs.Fold.{started}
+use Rattle.crc.proofs.Fold.{fold, started, eight-more, eight-fits}
 use Rattle.crc.proofs.crc_of.Statement.{statement}
 use Rattle.crc.proofs.crc_of.Tie as tie
 
 abbrev Inv-loop : tie.InvT-loop
-Inv-loop bytes s₀ i₀ s i = (i ≤ length bytes) × (crcFrom (fold s) (drop i bytes) ≡ crcOf bytes)
+Inv-loop bytes s₀ i₀ s i = (i ≤ length bytes) × (s < 2 ^ 64) × (crcFrom (fold s) (drop i bytes) ≡ crcOf bytes)
 
 abbrev μ-loop : tie.MeasureT-loop
 μ-loop bytes s₀ i₀ s i = length bytes - i
@@ -28,25 +28,25 @@ abbrev μ-loop2 : tie.MeasureT-loop2
 
 loop-holds : tie.Need-loop-holds Inv-loop μ-loop Inv-loop2 μ-loop2
 unfolding crcOf
-loop-holds c = (search needs, rw started)
+loop-holds c = (search needs, omega arith, rw started)
 
 sub-loop : tie.Need-sub-loop Inv-loop μ-loop Inv-loop2 μ-loop2
 sub-loop c = search needs
 
-add-eight-in : tie.Need-add-eight-in Inv-loop μ-loop Inv-loop2 μ-loop2
-add-eight-in c = search needs
+add-word-of : tie.Need-add-word-of Inv-loop μ-loop Inv-loop2 μ-loop2
+add-word-of c = search needs
 
-sub-eight-in : tie.Need-sub-eight-in Inv-loop μ-loop Inv-loop2 μ-loop2
-sub-eight-in c = search needs
+sub-word-of : tie.Need-sub-word-of Inv-loop μ-loop Inv-loop2 μ-loop2
+sub-word-of c = search needs
 
-part-eight-in-start : tie.Need-part-eight-in-start Inv-loop μ-loop Inv-loop2 μ-loop2
-part-eight-in-start c = search needs
+part-word-of-start : tie.Need-part-word-of-start Inv-loop μ-loop Inv-loop2 μ-loop2
+part-word-of-start c = search needs
 
-part-eight-in-end : tie.Need-part-eight-in-end Inv-loop μ-loop Inv-loop2 μ-loop2
-part-eight-in-end c = search needs
+part-word-of-end : tie.Need-part-word-of-end Inv-loop μ-loop Inv-loop2 μ-loop2
+part-word-of-end c = search needs
 
-eight-in-requires : tie.Need-eight-in-requires Inv-loop μ-loop Inv-loop2 μ-loop2
-eight-in-requires c κs =
+word-of-requires : tie.Need-word-of-requires Inv-loop μ-loop Inv-loop2 μ-loop2
+word-of-requires c κs =
     let eight : (c .before .before .loop .i + 8) - c .before .before .loop .i ≡ 8 = omega arith in
     rw (eight, length-take, length-drop) (min-eq-left (search needs))
 
@@ -61,14 +61,16 @@ loop-again c =
     let at = c .before .before .before .loop in
     let bytes = c .before .before .before .before .before .args .bytes .now in
     let eight : (at .i + 8) - at .i ≡ 8 = omega arith in
-    let told : fold (c .eight-in .result) ≡ crcFrom (fold (at .s)) (take 8 (drop (at .i) bytes)) = rw eight at (c .eight-in .ensures) in
-    (search needs, ap (λ (x : ℕ). crcFrom x (drop (at .i + 8) bytes)) told ∙ sym (more 8 (fold (at .s)) bytes (at .i)) ∙ at .inv .1)
+    let word : bytesOf 8 (c .word-of .result) ≡ take 8 (drop (at .i) bytes) = rw eight at (c .word-of .ensures) in
+    let told = eight-more (at .s) (c .word-of .result) (at .inv .1) ∙ ap (crcFrom (fold (at .s))) word in
+    (search needs, eight-fits (at .s) (c .word-of .result) (at .inv .1) (search needs), ap (λ (x : ℕ). crcFrom x (drop (at .i + 8) bytes)) told ∙ sym (more 8 (fold (at .s)) bytes (at .i)) ∙ at .inv .2)
 
 fold-of-requires : tie.Need-fold-of-requires Inv-loop μ-loop Inv-loop2 μ-loop2
 fold-of-requires c κs = search needs
 
 loop2-holds : tie.Need-loop2-holds Inv-loop μ-loop Inv-loop2 μ-loop2
-loop2-holds c = (search needs, rw (c .fold-of .ensures) (c .before .before .loop .inv .1))
+unfolding fold
+loop2-holds c = (search needs, rw (c .fold-of .ensures) (c .before .before .loop .inv .2))
 
 shared-slice-read-one : tie.Need-shared-slice-read-one Inv-loop μ-loop Inv-loop2 μ-loop2
 shared-slice-read-one c = search needs
@@ -106,11 +108,11 @@ crc-of-spec =
     μ-loop2
     loop-holds
     sub-loop
-    add-eight-in
-    sub-eight-in
-    part-eight-in-start
-    part-eight-in-end
-    eight-in-requires
+    add-word-of
+    sub-word-of
+    part-word-of-start
+    part-word-of-end
+    word-of-requires
     add-i
     loop-less
     loop-again

@@ -1,6 +1,5 @@
 -- `crc::wide::fold_of` meets its contract: the upper four bytes, then the lower four.
 -- Assumes nothing.
-use Rattle.crc.specs.Fold.{fold}
 use Rattle.crc.proofs.Bytes.{in-two}
 use borrow.Author.Needs.{needs}
 use Rattle.crc.proofs.wide.fold_of.Statement.{statement}
@@ -19,7 +18,6 @@ four-requires-2 : tie.Need-four-requires-2
 four-requires-2 c κs = search needs
 
 returns : tie.Need-returns
-unfolding fold
 returns c = rw (c .four2 .ensures, c .before .four .ensures) (in-two 4 4 0 (c .before .before .args .s))
 
 pub fold-of-spec : {M : Type 1} → statement M

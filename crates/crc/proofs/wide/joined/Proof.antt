@@ -1,6 +1,5 @@
 -- `crc::wide::joined` meets its contract: each byte is set behind those before it.
 -- Assumes nothing.
-use mathlib.Core.Path.{_∙_}
 use Prim.Native.Nat.{ℕ, _+_, _*_}
 use native.Mathlib.Omega.{arith}
 use lib.Bits.{or-shifted}

@@ -11,10 +11,10 @@ use Rattle.packets.proofs.writing.copy.Statement.{statement}
 use Rattle.packets.proofs.writing.copy.Tie as tie
 
 abbrev Inv-loop : tie.InvT-loop
-Inv-loop from to₀ at i₀ to i = (i ≤ length from) × (to ≡ sets to₀ at (take i from)) × (length to ≡ length to₀)
+Inv-loop to₀ at from i₀ to i = (i ≤ length from) × (to ≡ sets to₀ at (take i from)) × (length to ≡ length to₀)
 
 abbrev μ-loop : tie.MeasureT-loop
-μ-loop from to₀ at i₀ to i = length from - i
+μ-loop to₀ at from i₀ to i = length from - i
 
 loop-holds : tie.Need-loop-holds Inv-loop μ-loop
 loop-holds c = (omega arith, refl, refl)
