@@ -75,7 +75,7 @@ module _ (w : World) (room : List ℕ) (wide : 260 ≤ length room) where
   obeyed Shutdown (past a none) = slept (not-false a)
 
   -- it is known by its answer
-  command-succeeds : (c : Command) → succeeded (obeying c room w .told) ≡ true
+  pub command-succeeds : (c : Command) → succeeded (obeying c room w .told) ≡ true
   unfolding answered spokenBytes replyBytes
   command-succeeds c = one-succeeds room (commandRow c .code) _ wide
 

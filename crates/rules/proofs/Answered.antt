@@ -1,0 +1,84 @@
+-- Demand 1: every call is answered, or refused by the first of its rows that holds, which is the lowest, with all as it came.
+-- Assumes nothing.
+use Prim.Native.Nat.{ℕ}
+use mathlib.Core.Path.{_≡_, refl, sym, ap, _∙_}
+use mathlib.Core.Bool.{true}
+use Rattle.rows.specs.Rows.{First, Clear, refused, gave, rising}
+use Rattle.rows.proofs.Bool.{never}
+use Rattle.rows.proofs.Laws.{never-both, first-one, refused-same, gave-not}
+use Rattle.rows.proofs.Lowest.{lowest}
+use Rattle.rules.specs.Refusals.{Given}
+use Rattle.rules.specs.Families.{command, dataIn, dataOut, status, wordLent}
+use Rattle.rules.specs.World.{World, Call, power, packet, deadline, put, word, pipe, samples, roomOf, Stepped, stepped, isAnswered, step, rowsOf}
+use Rattle.rules.specs.Demands.{AlwaysAnswered, LowestFirst, RefusedUnchanged}
+use Rattle.rules.proofs.Happens.{Happens, by-rows, by-power, by-empty, by-damage, by-acknowledgement, by-check, by-command, by-deadline, by-put, by-word, by-pipe, by-samples, happens}
+
+-- how a call ends: refused by its first row that holds, or answered
+pub data Ends (w : World) (c : Call) (s : Stepped) : Type 0 where
+  stopped : (n : ℕ) → First n (rowsOf w c) → s ≡ stepped (refused n) (roomOf c) (w .pod) (w .lent) → Ends w c s
+  answered : (g : Given) → Clear (rowsOf w c) → s .told .said ≡ gave g → Ends w c s
+
+pub ends : {w : World} {c : Call} {s : Stepped} → Happens w c s → Ends w c s
+ends (by-rows c n f) = stopped n f refl
+ends (by-power k) = answered _ k refl
+ends (by-empty b room k e) = answered _ k refl
+ends (by-damage b room first n k e) = answered _ k refl
+ends (by-acknowledgement b room first one k e) = answered _ k refl
+ends (by-check b room c n k e f) = answered _ k refl
+ends (by-command b room c k e q) = answered _ k refl
+ends (by-deadline k) = answered _ k refl
+ends (by-put s b k) = answered _ k refl
+ends (by-word c k) = answered _ k refl
+ends (by-pipe c k) = answered _ k refl
+ends (by-samples n xs k) = answered _ k refl
+
+says : {s r : Stepped} → s ≡ r → s .told .said ≡ r .told .said
+says e = ap (λ (x : Stepped). x .told .said) e
+
+-- "Each is answered, or refused by a number in document 01": exactly by the first row that holds
+pub always-answered : AlwaysAnswered
+always-answered w c n = (there (ends (happens w c)), back (ends (happens w c)))
+  where
+    there : Ends w c (step w c) → step w c .told .said ≡ refused n → First n (rowsOf w c)
+    there (stopped m f e) s = rw (refused-same (sym (says e) ∙ s)) at f
+    there (answered g k e) s = absurd (gave-not (sym e ∙ s))
+
+    back : Ends w c (step w c) → First n (rowsOf w c) → step w c .told .said ≡ refused n
+    back (stopped m f e) g = rw (← first-one f g) (says e)
+    back (answered g k e) f = never-both f k
+
+-- where a call is answered, none of its rows holds
+pub answered-clear : (w : World) (c : Call) → isAnswered w c ≡ true → Clear (rowsOf w c)
+answered-clear w c h = on (ends (happens w c))
+  where
+    on : Ends w c (step w c) → Clear (rowsOf w c)
+    on (stopped n f e) = never (rw (says e) at h) refl
+    on (answered g k e) = k
+
+-- "and a refused call leaves all its lent memory and the pod's state as they came"
+pub refused-unchanged : RefusedUnchanged
+refused-unchanged w c n s = on (ends (happens w c))
+  where
+    on : Ends w c (step w c) → step w c ≡ stepped (refused n) (roomOf c) (w .pod) (w .lent)
+    on (stopped m f e) = rw (← refused-same (sym (says e) ∙ s)) e
+    on (answered g k e) = absurd (gave-not (sym e ∙ s))
+
+rows-rise : (w : World) (c : Call) → rising 0 (rowsOf w c) ≡ true
+unfolding rising rowsOf wordLent
+rows-rise w power = refl
+rows-rise w (packet b room) = refl
+rows-rise w deadline = refl
+rows-rise w (put s b) = refl
+rows-rise w (word (command x)) = refl
+rows-rise w (word (dataIn x)) = refl
+rows-rise w (word dataOut) = refl
+rows-rise w (word status) = refl
+rows-rise w (pipe c) = refl
+rows-rise w (samples k xs) = refl
+
+-- "Lowest number first"
+pub lowest-first : LowestFirst
+lowest-first w c n =
+    let low = lowest (rowsOf w c) (rows-rise w c) n in
+    let first = always-answered w c n in
+    (λ s. low .0 (first .0 s), λ h. first .1 (low .1 h))

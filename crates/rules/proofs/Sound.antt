@@ -1,0 +1,167 @@
+-- Demand 1: no call leaves the bounds: each command, word and pipe call, then what happens at any call, then every history.
+-- Assumes nothing.
+use Prim.Native.Nat.{ℕ, _-_, _*_, _<_}
+use native.Mathlib.Omega.{arith}
+use mathlib.Core.Path.{_≡_, refl, ap, _∙_}
+use mathlib.Core.Bool.{Bool, true, _||_}
+use mathlib.Core.List.{List, [], _∷_}
+use lib.Dec.{eqb}
+use lib.IntN.{ℤ}
+use lib.ListN.{length}
+use borrow.Author.Tests.{leb-false, eqb-true}
+use Rattle.rows.specs.Rows.{Clear, none, past}
+use Rattle.rows.proofs.Bool.{by-test, not-false}
+use Rattle.blocks.specs.declared.Store.{Store}
+use Rattle.blocks.specs.declared.Store.the-variants.{Priority, Ordinary}
+use Rattle.blocks.specs.Stores.{capacityOf, storeSized}
+use Rattle.blocks.proofs.Laws.{put-sound, drop-sound}
+use Rattle.packets.specs.declared.Fields.{Fields}
+use Rattle.packets.specs.declared.Command.{Command}
+use Rattle.packets.specs.declared.Command.the-variants as command
+use Rattle.packets.specs.Commands.{fieldsBounded}
+use Rattle.packets.proofs.Laws.{Within, bounded-within, within-bounded}
+use Rattle.params.specs.declared.Params.{Params}
+use Rattle.params.specs.Rules.{soundParams, writeAllowed, stored, writeOf}
+use Rattle.params.proofs.Laws.{write-sound}
+use Rattle.tables.specs.declared.Words.{Words}
+use Rattle.tables.specs.declared.Answered.{Answered}
+use Rattle.tables.specs.Port.{Desk, Tabled, tabled}
+use Rattle.tables.proofs.Kept.{close-sound, command-sound, data-in-sound, data-out-sound, status-sound}
+use Rattle.tables.proofs.Closing.{close-idle, off-idle, idle-in, idle-out, wrong-idle}
+use Rattle.tables.proofs.Obeying.{status-clears}
+use Rattle.pipe.specs.declared.Pipe.{Pipe}
+use Rattle.pipe.specs.Pipe.{soundPipe}
+use Rattle.pipe.proofs.Laws.{byte-sound, timeout-sound}
+use Rattle.rules.specs.declared.Exchange.{Exchange}
+use Rattle.rules.specs.declared.Exchange.the-variants.{Closed, Status, Read, Receive}
+use Rattle.rules.specs.declared.Pod.{Pod}
+use Rattle.rules.specs.State.{Lent, storeIn, deskIn, withWords, withRemaining, ringOf, remainingOf, freshPod, soundPod}
+use Rattle.rules.specs.Obey.{shut, checksOf, doneBy, initialisedPod, matches, dropFrom, settled, acknowledgedOf}
+use Rattle.rules.specs.Families.{WordCall, command as commands, dataIn, dataOut, status, wordOf, PipeCall, byte, timeout, pipeOf}
+use Rattle.rules.specs.Calls.{answered}
+use Rattle.rules.specs.World.{World, world, Call, power, put, Stepped, rowsOf, next, final, powered}
+use Rattle.rules.specs.Demands.{KeptSound}
+use Rattle.rules.proofs.Happens.{Happens, by-rows, by-power, by-empty, by-damage, by-acknowledgement, by-check, by-command, by-deadline, by-put, by-word, by-pipe, by-samples, checks-shut, happens}
+use Rattle.rules.proofs.Inside.{PodIn, in-pod, pod-in, ring-in, off-still, in-shut, in-open, in-fields, in-params, in-ring, in-pipe, in-words, in-sleep, anew-in, fresh-in}
+
+-- ---- the commands
+
+-- a write that is allowed keeps parameters sound
+pub stored-sound : (q : Params) (id : ℕ) (v : ℤ) → writeAllowed q id v ≡ true → soundParams q ≡ true → soundParams (stored q id v) ≡ true
+unfolding writeOf
+stored-sound q id v e h = rw e at (write-sound q id v h)
+
+-- a command, an open exchange being closed, that passes its checks
+command-in : (c : Command) (l : Lent) (p : Pod) → Clear (checksOf c p) → p .exchange ≡ Closed → PodIn p → PodIn (doneBy c l p .pod)
+unfolding checksOf doneBy initialisedPod
+command-in (command.Initialise f) l p (past k none) shut h = anew-in true f (not-false k)
+command-in command.Status l p (past on none) shut h = in-open h Status (not-false on)
+command-in (command.Update f) l p (past on (past k none)) shut h = in-fields h f (not-false k)
+command-in (command.Write id v) l p (past on (past k none)) shut h = in-params h _ (stored-sound (p .params) id v (not-false k) (h .params))
+command-in (command.Read id) l p (past on k) shut h = in-open h Read (not-false on)
+command-in command.Priority l p (past on k) shut h = in-open h (Receive Priority) (not-false on)
+command-in command.Data l p (past on k) shut h = in-open h (Receive Ordinary) (not-false on)
+command-in command.Shutdown l p (past on none) shut h =
+    in-sleep (in-words h _ (close-sound (p .words) (h .words)) (λ off. close-idle (p .words))) shut (close-idle (p .words))
+
+-- ---- the acknowledgement
+
+-- a remaining that falls by 1 stays at most its limit
+pub fewer-bounded : (s : Store) (f : Fields) → fieldsBounded f ≡ true → fieldsBounded (withRemaining s (remainingOf s f - 1) f) ≡ true
+fewer-bounded s f h = within-bounded _ (on s (bounded-within f h))
+  where
+    on : (s : Store) → Within f → Within (withRemaining s (remainingOf s f - 1) f)
+    on Priority b = record { mode = b .mode; milliseconds = b .milliseconds; priority = omega (arith, b .priority); memory = b .memory; least = b .least; most = b .most }
+    on Ordinary b = record { mode = b .mode; milliseconds = b .milliseconds; priority = b .priority; memory = omega (arith, b .memory); least = b .least; most = b .most }
+
+dropped-in : (s : Store) (p : Pod) → PodIn p → PodIn (dropFrom s p)
+unfolding dropFrom
+dropped-in s p h =
+    by-test PodIn (eqb (ringOf s p .waiting) 0 || eqb (remainingOf s (p .fields)) 0) (λ e. h)
+    (λ e. in-ring (in-fields h _ (fewer-bounded s (p .fields) (h .fields))) s _ (drop-sound (capacityOf s) (ringOf s p) (ring-in h s)))
+
+settled-in : (x : Exchange) (p : Pod) → PodIn p → PodIn (settled x p)
+unfolding settled
+settled-in Closed p h = h
+settled-in Status p h = h
+settled-in Read p h = h
+settled-in (Receive s) p h = dropped-in s p h
+
+pub acknowledged-in : (first : ℕ) (one : Bool) (p : Pod) → PodIn p → PodIn (acknowledgedOf first one p)
+unfolding acknowledgedOf
+acknowledged-in first one p h =
+    in-shut (by-test PodIn (matches first one (p .exchange)) (λ e. settled-in (p .exchange) p h) (λ e. h))
+
+-- ---- the families
+
+-- a table word
+pub word-in : (c : WordCall) (d : Desk) {p : Pod} → PodIn p → PodIn (withWords (wordOf c (p .initialised) (p .words) d .pod) p)
+unfolding wordOf
+word-in (commands x) d {p} h =
+    in-words h _ (command-sound (p .initialised) x (tabled (p .words) d) (h .words)) (λ off. rw off (off-idle x (tabled (p .words) d)))
+word-in (dataIn x) d {p} h =
+    in-words h _ (data-in-sound x (tabled (p .words) d) (h .words))
+    (λ off. ap (λ (y : Tabled). y .words .transfer) (idle-in x (tabled (p .words) d) (off-still p h off)) ∙ wrong-idle (p .words))
+word-in dataOut d {p} h =
+    in-words h _ (data-out-sound (p .words) (d .tables) (h .words))
+    (λ off. ap (λ (y : Answered). y .words .transfer) (idle-out (p .words) (d .tables) (off-still p h off)) ∙ wrong-idle (p .words))
+word-in status d {p} h =
+    in-words h _ (status-sound (p .words) (h .words))
+    (λ off. ap (λ (y : Words). y .transfer) (status-clears (p .words)) ∙ off-still p h off)
+
+-- a pipe call
+pub pipe-sound : (c : PipeCall) (i : Pipe) → soundPipe i ≡ true → soundPipe (pipeOf c i .pod) ≡ true
+unfolding pipeOf soundPipe
+pipe-sound (byte b) i h = byte-sound (i .input) b h
+pipe-sound timeout i h = timeout-sound (i .input) h
+
+-- ---- every call
+
+-- a put that is not refused: a whole store and block, a sound pod, and room
+pub record PutFits (s : Store) (b : List ℕ) (w : World) : Type 0 where
+  pub store : length (storeIn s (w .lent)) ≡ capacityOf s * 256
+  pub sound : soundPod (w .pod) ≡ true
+  pub block : length b ≡ 256
+  pub free : ringOf s (w .pod) .waiting < capacityOf s
+
+pub put-fits : (s : Store) (b : List ℕ) (w : World) → Clear (rowsOf w (put s b)) → PutFits s b w
+unfolding rowsOf storeSized
+put-fits s b w (past size (past ok (past long (past on (past room none))))) =
+    record {
+      store = eqb-true _ _ (not-false size);
+      sound = not-false ok;
+      block = eqb-true _ _ (not-false long);
+      free = leb-false _ _ room;
+    }
+
+pub step-in : {w : World} {c : Call} {s : Stepped} → Happens w c s → PodIn (w .pod) → PodIn (s .world .pod)
+unfolding answered
+step-in (by-rows c n f) h = h
+step-in (by-power k) h = fresh-in
+step-in (by-empty b room k e) h = h
+step-in (by-damage b room first n k e) h = in-shut h
+step-in {w} (by-acknowledgement b room first one k e) h = acknowledged-in first one (w .pod) h
+step-in (by-check b room c n k e f) h = in-shut h
+step-in {w} (by-command b room c k e q) h =
+    command-in c (w .lent) (shut (w .pod)) (rw (← checks-shut c (w .pod)) at q) refl (in-shut h)
+step-in (by-deadline k) h = in-shut h
+step-in {w} (by-put s b k) h = in-ring h s _ (put-sound (capacityOf s) (ringOf s (w .pod)) (ring-in h s) (put-fits s b w k .free))
+step-in {w} (by-word c k) h = word-in c (deskIn (w .lent)) h
+step-in {w} (by-pipe c k) h = in-pipe h _ (pipe-sound c (w .pod .pipe) (h .pipe))
+step-in (by-samples k xs q) h = h
+
+-- so the test of the bounds passes after every call that it passed before
+pub sound-next : (w : World) (c : Call) → soundPod (w .pod) ≡ true → soundPod (next w c .pod) ≡ true
+sound-next w c h = in-pod (step-in (happens w c) (pod-in (w .pod) h))
+
+pub sound-final : (cs : List Call) (w : World) → soundPod (w .pod) ≡ true → soundPod (final w cs .pod) ≡ true
+unfolding final
+sound-final [] w h = h
+sound-final (c ∷ cs) w h = sound-final cs (next w c) (sound-next w c h)
+
+-- from power on the pod is within its bounds, whatever is lent
+pub powered-sound : (l : Lent) → soundPod (powered l .pod) ≡ true
+powered-sound l = sound-next (world freshPod l) power (in-pod fresh-in)
+
+pub kept-sound : KeptSound
+kept-sound = (powered-sound, sound-next)
