@@ -1,4 +1,0 @@
-pub mod Choice
-pub mod Lent
-pub mod ObeyLaws
-pub mod AcknowledgeLaws
