@@ -2,13 +2,13 @@ pub mod Bool
 pub mod Ones
 pub mod Lists
 pub mod Orders
+pub mod Obeying
 pub mod Closing
 pub mod Reading
 pub mod Loading
 pub mod Limits
-pub mod Obeying
 pub mod Storing
 pub mod Gathering
+pub mod Stale
 pub mod Kept
-pub mod Laws
-pub mod Shown
+pub mod Lengths

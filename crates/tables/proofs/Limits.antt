@@ -4,67 +4,94 @@ use mathlib.Core.Bool.{true, _&&_}
 use Prim.Native.Nat.{ℕ, _+_, _≤_, _<_}
 use borrow.Author.Tests.{ltb-true, leb-true, lt-ltb, le-leb}
 use lib.Dec.{ltb, leb}
-use Rattle.tables.specs.declared.Table.{Table}
+use Rattle.tables.specs.declared.Table.the-variants.{Five, Six, Seven}
+use Rattle.tables.specs.declared.Header.{Header}
+use Rattle.tables.specs.declared.Places.{Places}
 use Rattle.tables.specs.declared.Words.{Words}
 use Rattle.tables.specs.declared.Transfer.the-variants.{Load, Read}
-use Rattle.tables.specs.Tables.{sizeOf}
-use Rattle.tables.specs.Command.{allowed}
-use Rattle.tables.specs.Port.{dataCount}
-use Rattle.tables.specs.Bounds.{soundPlaces, soundTransfer, soundOf}
+use Rattle.tables.specs.Tables.{tableSize}
+use Rattle.tables.specs.Command.{lengthAllowed}
+use Rattle.tables.specs.Port.{dataCount, fits}
+use Rattle.tables.specs.Bounds.{soundPlaces, soundTransfer, soundWords}
 use Rattle.tables.proofs.Bool.{and-left, and-right, and-both}
 
-pub sound-places : (w : Words) → soundOf w ≡ true → soundPlaces (w .places) ≡ true
-unfolding soundOf
+pub sound-places : (w : Words) → soundWords w ≡ true → soundPlaces (w .places) ≡ true
+unfolding soundWords
 sound-places w h = and-left (soundPlaces (w .places)) (soundTransfer (w .transfer)) h
 
-pub sound-transfer : (w : Words) → soundOf w ≡ true → soundTransfer (w .transfer) ≡ true
-unfolding soundOf
+pub sound-transfer : (w : Words) → soundWords w ≡ true → soundTransfer (w .transfer) ≡ true
+unfolding soundWords
 sound-transfer w h = and-right (soundPlaces (w .places)) (soundTransfer (w .transfer)) h
 
-pub both-sound : (w : Words) → soundPlaces (w .places) ≡ true → soundTransfer (w .transfer) ≡ true → soundOf w ≡ true
-unfolding soundOf
+pub both-sound : (w : Words) → soundPlaces (w .places) ≡ true → soundTransfer (w .transfer) ≡ true → soundWords w ≡ true
+unfolding soundWords
 both-sound w p t = and-both p t
 
--- an open load: N 4 to 64, and 0 to N-1 words along
-pub record LoadIn (n k : ℕ) : Type 0 where
+-- each read place at most its table's size
+pub record PlacesIn (p : Places) : Type 0 where
+  pub five : p .five ≤ tableSize Five
+  pub six : p .six ≤ tableSize Six
+  pub seven : p .seven ≤ tableSize Seven
+
+pub places-in : (p : Places) → soundPlaces p ≡ true → PlacesIn p
+unfolding soundPlaces
+places-in p e =
+    let a = leb (p .five) 64 in
+    let b = leb (p .six) 128 in
+    let d = leb (p .seven) 64 in
+    let rest = and-right a (b && d) e in
+    record { five = leb-true _ _ (and-left a (b && d) e); six = leb-true _ _ (and-left b d rest); seven = leb-true _ _ (and-right b d rest) }
+
+pub in-places : (p : Places) → PlacesIn p → soundPlaces p ≡ true
+unfolding soundPlaces
+in-places p h = and-both (le-leb _ _ (h .five)) (and-both (le-leb _ _ (h .six)) (le-leb _ _ (h .seven)))
+
+-- N 4 to 64
+pub record Allowed (n : ℕ) : Type 0 where
   pub least : 4 ≤ n
   pub most : n ≤ 64
-  pub along : k < n
 
-load-facts : (n k : ℕ) → (allowed n && ltb k n) ≡ true → LoadIn n k
-load-facts n k h =
-    let a = and-left (allowed n) (ltb k n) h in
-    record {
-      least = leb-true _ _ (and-left (leb 4 n) (leb n 64) a);
-      most = leb-true _ _ (and-right (leb 4 n) (leb n 64) a);
-      along = ltb-true _ _ (and-right (allowed n) (ltb k n) h);
-    }
+pub allowed-has : (n : ℕ) → lengthAllowed n ≡ true → Allowed n
+allowed-has n h =
+    record { least = leb-true _ _ (and-left (leb 4 n) (leb n 64) h); most = leb-true _ _ (and-right (leb 4 n) (leb n 64) h) }
 
-pub load-in : (t : Table) (n k : ℕ) → soundTransfer (Load t n k) ≡ true → LoadIn n k
+has-allowed : (n : ℕ) → Allowed n → lengthAllowed n ≡ true
+has-allowed n h = and-both (le-leb _ _ (h .least)) (le-leb _ _ (h .most))
+
+-- an open load: its length allowed, and 0 to N-1 words along
+pub record LoadIn (h : Header) (k : ℕ) : Type 0 where
+  pub allowed : Allowed (h .n)
+  pub along : k < h .n
+
+pub load-in : (h : Header) (k : ℕ) → soundTransfer (Load h k) ≡ true → LoadIn h k
 unfolding soundTransfer
-load-in t n k h = load-facts n k h
+load-in h k e =
+    let a = lengthAllowed (h .n) in
+    let b = ltb k (h .n) in
+    record { allowed = allowed-has (h .n) (and-left a b e); along = ltb-true _ _ (and-right a b e) }
 
-pub in-load : (t : Table) (n k : ℕ) → LoadIn n k → soundTransfer (Load t n k) ≡ true
+pub in-load : (h : Header) (k : ℕ) → LoadIn h k → soundTransfer (Load h k) ≡ true
 unfolding soundTransfer
-in-load t n k h = and-both (and-both (le-leb _ _ (h .least)) (le-leb _ _ (h .most))) (lt-ltb _ _ (h .along))
+in-load h k b = and-both (has-allowed (h .n) (b .allowed)) (lt-ltb _ _ (b .along))
 
 -- an open read: the same, and within its table
-pub record ReadIn (t : Table) (n k at : ℕ) : Type 0 where
-  pub length : LoadIn n k
-  pub end : at + dataCount n ≤ sizeOf t
+pub record ReadIn (h : Header) (k at : ℕ) : Type 0 where
+  pub load : LoadIn h k
+  pub end : at + dataCount h ≤ tableSize (h .table)
 
-pub read-in : (t : Table) (n k at : ℕ) → soundTransfer (Read t n k at) ≡ true → ReadIn t n k at
+pub read-in : (h : Header) (k at : ℕ) → soundTransfer (Read h k at) ≡ true → ReadIn h k at
 unfolding soundTransfer
-read-in t n k at h =
-    let e = leb (at + dataCount n) (sizeOf t) in
-    let rest = and-right (allowed n) (ltb k n && e) h in
+read-in h k at e =
+    let a = lengthAllowed (h .n) in
+    let b = ltb k (h .n) in
+    let d = fits (h .table) at (dataCount h) in
+    let rest = and-right a (b && d) e in
     record {
-      length = load-facts n k (and-both (and-left (allowed n) (ltb k n && e) h) (and-left (ltb k n) e rest));
-      end = leb-true _ _ (and-right (ltb k n) e rest);
+      load = record { allowed = allowed-has (h .n) (and-left a (b && d) e); along = ltb-true _ _ (and-left b d rest) };
+      end = leb-true _ _ (and-right b d rest);
     }
 
-pub in-read : (t : Table) (n k at : ℕ) → ReadIn t n k at → soundTransfer (Read t n k at) ≡ true
+pub in-read : (h : Header) (k at : ℕ) → ReadIn h k at → soundTransfer (Read h k at) ≡ true
 unfolding soundTransfer
-in-read t n k at h =
-    and-both (and-both (le-leb _ _ (h .length .least)) (le-leb _ _ (h .length .most)))
-    (and-both (lt-ltb _ _ (h .length .along)) (le-leb _ _ (h .end)))
+in-read h k at b =
+    and-both (has-allowed (h .n) (b .load .allowed)) (and-both (lt-ltb _ _ (b .load .along)) (le-leb _ _ (b .end)))

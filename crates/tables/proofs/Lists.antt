@@ -8,7 +8,7 @@ use native.Mathlib.Omega.{arith}
 use lib.ListN.{length, set, take, drop, getD, length-append}
 use lib.Seq.{sets, take-suc, drop-cons, length-take-le, set-at}
 use Rattle.tables.specs.declared.Table.{Table}
-use Rattle.tables.specs.Tables.{sizeOf, startWord, listed, startTable}
+use Rattle.tables.specs.Tables.{tableSize, startWord, listed, startTable}
 
 -- a run of stores with one more at its end
 pub sets-snoc : (l : List ℕ) (i : ℕ) (vs : List ℕ) (x : ℕ) → sets l i (vs ++ (x ∷ [])) ≡ set (sets l i vs) (i + length vs) x
@@ -38,6 +38,6 @@ listed-same f g zero e = refl
 listed-same f g (suc n) e = rw (listed-same f g n e, e n)
 
 -- a table of its size whose word i is step times i is at its start
-pub filled : (t : Table) (step n : ℕ) → ((i : ℕ) → step * i ≡ startWord t i) → n ≡ sizeOf t → listed (λ (i : ℕ). step * i) n ≡ startTable t
+pub filled : (t : Table) (step n : ℕ) → ((i : ℕ) → step * i ≡ startWord t i) → n ≡ tableSize t → listed (λ (i : ℕ). step * i) n ≡ startTable t
 unfolding startTable
-filled t step n e h = rw h (listed-same (λ (i : ℕ). step * i) (startWord t) (sizeOf t) e)
+filled t step n e h = rw h (listed-same (λ (i : ℕ). step * i) (startWord t) (tableSize t) e)

@@ -8,7 +8,9 @@ use native.Mathlib.Nat.{add-zero, add-suc, suc-add, not-suc-le-zero, le-of-suc-l
 use native.Mathlib.Omega.{arith}
 use lib.ListN.{length, getD, set, take, drop, length-set, length-take, length-drop}
 use lib.Seq.{sets, length-sets, getD-set-same, getD-set-other, getD-take, getD-drop}
-use Rattle.tables.specs.Port.{dataCount, rightOf, storedIn}
+use Rattle.tables.specs.declared.Header.{Header}
+use Rattle.tables.specs.Tables.{tableSize}
+use Rattle.tables.specs.Port.{dataCount, loadRight, storedIn}
 use Rattle.tables.proofs.Loading.{right-has}
 
 -- before a run of stores nothing changes
@@ -39,27 +41,26 @@ sets-inside (v ∷ vs) l i (suc j) h k =
     rw at (sets-inside vs (set l i v) (suc i) j (le-of-suc-le-suc h) fits)
 
 -- a table keeps its size, whatever is stored
-pub stored-size : (n : ℕ) (l table : List ℕ) → length (storedIn n l table) ≡ length table
+pub stored-size : (h : Header) (l table : List ℕ) → length (storedIn h l table) ≡ length table
 unfolding storedIn
-stored-size n l table = length-sets table (getD l 1 0) (take (dataCount n) (drop 3 l))
+stored-size h l table = length-sets table (getD l 1 0) (take (dataCount h) (drop 3 l))
 
-module _ (number n : ℕ) (l table : List ℕ) (right : rightOf (length table) number n l ≡ true) (whole : n ≤ length l) where
-  data-length : length (take (dataCount n) (drop 3 l)) ≡ dataCount n
+module _ (h : Header) (l table : List ℕ) (size : length table ≡ tableSize (h .table)) (right : loadRight h l ≡ true) (whole : h .n ≤ length l) where
+  data-length : length (take (dataCount h) (drop 3 l)) ≡ dataCount h
   data-length = simp (length-take, length-drop) (omega arith)
 
   -- each data word stands at its address
-  pub stored-new : (j : ℕ) → j < dataCount n → getD (storedIn n l table) (getD l 1 0 + j) 0 ≡ getD l (3 + j) 0
+  pub stored-new : (j : ℕ) → j < dataCount h → getD (storedIn h l table) (getD l 1 0 + j) 0 ≡ getD l (3 + j) 0
   unfolding storedIn
-  stored-new j h =
-      let end = right-has (length table) number n l right .end in
-      let inside : j < length (take (dataCount n) (drop 3 l)) = rw data-length h in
-      let room : getD l 1 0 + length (take (dataCount n) (drop 3 l)) ≤ length table = rw data-length end in
-      sets-inside (take (dataCount n) (drop 3 l)) table (getD l 1 0) j inside room
-      ∙ getD-take (dataCount n) (drop 3 l) j 0 h ∙ getD-drop 3 l j 0
+  stored-new j near =
+      let inside : j < length (take (dataCount h) (drop 3 l)) = rw data-length near in
+      let room : getD l 1 0 + length (take (dataCount h) (drop 3 l)) ≤ length table = rw (data-length, size) (right-has h l right .end) in
+      sets-inside (take (dataCount h) (drop 3 l)) table (getD l 1 0) j inside room
+      ∙ getD-take (dataCount h) (drop 3 l) j 0 near ∙ getD-drop 3 l j 0
 
   -- every word before the address or behind the last is as it was
-  pub stored-old : (i : ℕ) → (i < getD l 1 0) ⊎ (getD l 1 0 + dataCount n ≤ i) → getD (storedIn n l table) i 0 ≡ getD table i 0
+  pub stored-old : (i : ℕ) → (i < getD l 1 0) ⊎ (getD l 1 0 + dataCount h ≤ i) → getD (storedIn h l table) i 0 ≡ getD table i 0
   unfolding storedIn
   stored-old i =
-      ⊎-elim (λ h. sets-before (take (dataCount n) (drop 3 l)) table (getD l 1 0) i h)
-      (λ h. sets-behind (take (dataCount n) (drop 3 l)) table (getD l 1 0) i (rw data-length h))
+      ⊎-elim (λ e. sets-before (take (dataCount h) (drop 3 l)) table (getD l 1 0) i e)
+      (λ e. sets-behind (take (dataCount h) (drop 3 l)) table (getD l 1 0) i (rw data-length e))

@@ -1,5 +1,4 @@
 -- The bounds of the port's state.
-use Prim.Native.Nat.{ℕ}
 use mathlib.Core.Bool.{Bool, true, _&&_}
 use lib.Dec.{ltb, leb}
 use Rattle.tables.specs.declared.Table.the-variants.{Five, Six, Seven}

@@ -3,7 +3,8 @@ use crate::Order;
 use crate::Parts;
 use crate::Table;
 ghost use mathlib.Core.Path.{_≡_};
-ghost use Rattle.tables.specs.Command.{oddOnes, partsOf, writes, allowed, transferOf, tableOrder, orderOf, heardOf};
+ghost use Prim.Native.Nat.{_≤_};
+ghost use Rattle.tables.specs.Command.{oddOnes, partsOf, writes, lengthAllowed, transferAsked, tableAsked, orderOf, orderHeard, orderSaid};
 
 // Whether the count of ones is odd.
 fn odd_ones(word: u16) -> bool
@@ -18,23 +19,23 @@ fn odd_ones(word: u16) -> bool
     count % 2 == 1
 }
 
-pub fn parts(word: u16) -> Parts
+fn parts(word: u16) -> Parts
     ensures { λ r. ⌜ r ≡ partsOf word ⌝ }
 {
     let odd = odd_ones(word);
-    let n = (word % 0x200) as usize;
     Parts {
         odd,
         reads: word / 0x4000 % 2 == 1,
         command: word / 0x200 % 0x20,
-        n,
+        n: word % 0x200,
     }
 }
 
-fn transfer(table: Table, p: Parts) -> Order
-    ensures { λ r. ⌜ r ≡ transferOf table p ⌝ }
+fn transfer(p: Parts, table: Table) -> Order
+    requires { ⌜ p .n ≤ 64 ⌝ }
+    ensures { λ r. ⌜ r ≡ transferAsked table p ⌝ }
 {
-    let n = p.n;
+    let n = p.n as u8;
     if p.reads {
         Order::Reading { table, n }
     } else {
@@ -43,28 +44,29 @@ fn transfer(table: Table, p: Parts) -> Order
 }
 
 fn table_order(p: Parts) -> Order
-    ensures { λ r. ⌜ r ≡ tableOrder p ⌝ }
+    requires { ⌜ p .n ≤ 64 ⌝ }
+    ensures { λ r. ⌜ r ≡ tableAsked p ⌝ }
 {
     if p.command == 5 {
-        return transfer(Table::Five, p);
+        return transfer(p, Table::Five);
     }
     if p.command == 6 {
-        return transfer(Table::Six, p);
+        return transfer(p, Table::Six);
     }
     if p.command == 7 {
-        return transfer(Table::Seven, p);
+        return transfer(p, Table::Seven);
     }
     Order::Other
 }
 
-fn writes(p: Parts, command: u16, n: usize) -> bool
+fn writes(p: Parts, command: u16, n: u16) -> bool
     ensures { λ r. ⌜ r ≡ writes p command n ⌝ }
 {
     !p.reads & ((p.command == command) & (p.n == n))
 }
 
-pub fn allowed(n: usize) -> bool
-    ensures { λ r. ⌜ r ≡ allowed n ⌝ }
+pub fn allowed(n: u16) -> bool
+    ensures { λ r. ⌜ r ≡ lengthAllowed n ⌝ }
 {
     (4 <= n) & (n <= 64)
 }
@@ -92,7 +94,7 @@ fn order(p: Parts) -> Order
 
 // What a command word asks for, of a pod that is initialised or not.
 pub fn heard(on: bool, word: u16) -> Order
-    ensures { λ r. ⌜ r ≡ heardOf on word ⌝ }
+    ensures { λ r. ⌜ orderSaid r ≡ orderSaid (orderHeard on word) ⌝ }
 {
     if on {
         return order(parts(word));

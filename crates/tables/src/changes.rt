@@ -5,8 +5,8 @@ use crate::Table;
 use crate::Transfer;
 use crate::Words;
 ghost use mathlib.Core.Path.{_≡_};
-ghost use Rattle.tables.specs.Tables.{placeOf, withPlace};
-ghost use Rattle.tables.specs.Port.{withError, withTransfer, withGiven, restartOf};
+ghost use Rattle.tables.specs.Tables.{readPlace, withReadPlace};
+ghost use Rattle.tables.specs.Port.{withError, withTransfer, withGiven, restarted};
 
 pub fn with_error(w: Words, error: bool) -> Words
     ensures { λ r. ⌜ r ≡ withError error w ⌝ }
@@ -19,13 +19,11 @@ pub fn with_error(w: Words, error: bool) -> Words
 pub fn with_transfer(w: Words, transfer: Transfer) -> Words
     ensures { λ r. ⌜ r ≡ withTransfer transfer w ⌝ }
 {
-    let load = w.load;
     let places = w.places;
     let given = w.given;
     Words {
         error: w.error,
         transfer,
-        load,
         places,
         given,
     }
@@ -35,20 +33,18 @@ pub fn with_given(w: Words, given: Given) -> Words
     ensures { λ r. ⌜ r ≡ withGiven given w ⌝ }
 {
     let transfer = w.transfer;
-    let load = w.load;
     let places = w.places;
     Words {
         error: w.error,
         transfer,
-        load,
         places,
         given,
     }
 }
 
 // The read place of a table.
-pub fn place(p: Places, table: Table) -> usize
-    ensures { λ r. ⌜ r ≡ placeOf table p ⌝ }
+pub fn place(p: Places, table: Table) -> u8
+    ensures { λ r. ⌜ r ≡ readPlace table p ⌝ }
 {
     match table {
         Table::Five => p.five,
@@ -57,8 +53,8 @@ pub fn place(p: Places, table: Table) -> usize
     }
 }
 
-pub fn with_place(p: Places, table: Table, to: usize) -> Places
-    ensures { λ r. ⌜ r ≡ withPlace table to p ⌝ }
+pub fn with_place(p: Places, table: Table, to: u8) -> Places
+    ensures { λ r. ⌜ r ≡ withReadPlace table to p ⌝ }
 {
     match table {
         Table::Five => Places {
@@ -81,14 +77,12 @@ pub fn with_place(p: Places, table: Table, to: usize) -> Places
 
 // Read places 0, no address given.
 pub fn restarted(w: Words) -> Words
-    ensures { λ r. ⌜ r ≡ restartOf w ⌝ }
+    ensures { λ r. ⌜ r ≡ restarted w ⌝ }
 {
     let transfer = w.transfer;
-    let load = w.load;
     Words {
         error: w.error,
         transfer,
-        load,
         places: Places {
             five: 0,
             six: 0,

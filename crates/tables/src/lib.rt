@@ -4,24 +4,31 @@ mod bounds;
 mod changes;
 mod loads;
 mod reads;
+mod sizes;
+mod starts;
 
 use crate::asked::heard;
-use crate::bounds::transfer_sound;
 use crate::changes::restarted;
 use crate::changes::with_error;
 use crate::changes::with_given;
 use crate::changes::with_transfer;
 use crate::loads::load_word;
-use crate::loads::to_starts;
 use crate::reads::next_read;
 use crate::reads::read;
 use crate::reads::word_of;
+pub use bounds::idle;
+pub use bounds::sized;
+pub use bounds::sound;
+pub use starts::start_words;
+pub use starts::to_starts;
 ghost use mathlib.Core.Path.{_≡_};
 ghost use mathlib.Core.Bool.{true};
+ghost use mathlib.Core.List.{List};
+ghost use Prim.Native.Nat.{ℕ};
 ghost use lib.ListN.{length};
 ghost use Rattle.tables.specs.Tables.{three};
-ghost use Rattle.tables.specs.Bounds.{soundOf};
-ghost use Rattle.tables.specs.Port.{tabled, answer, startOf, closeOf, commandOf, dataInOf, dataOutOf, statusOf, wrongWay};
+ghost use Rattle.tables.specs.Bounds.{soundWords};
+ghost use Rattle.tables.specs.Port.{desk, tabled, answer, closeOf, commandOf, dataInOf, dataOutOf, statusOf, wrongWay};
 
 pub enum Table {
     Five,
@@ -40,15 +47,8 @@ pub struct Header {
 pub enum Transfer {
     Idle,
     Address,
-    Load {
-        header: Header,
-        k: u8,
-    },
-    Read {
-        header: Header,
-        k: u8,
-        start: u8,
-    },
+    Load { header: Header, k: u8 },
+    Read { header: Header, k: u8, start: u8 },
 }
 
 // The address at which the next read starts, if one was given.
@@ -83,7 +83,7 @@ pub struct Parts {
     pub odd: bool,
     pub reads: bool,
     pub command: u16,
-    pub n: usize,
+    pub n: u16,
 }
 
 // What a command word asks for. `Other` is any that is not accepted.
@@ -96,63 +96,16 @@ pub enum Order {
     Reading { table: Table, n: u8 },
 }
 
-// Whether the state is within its bounds.
-pub fn sound(w: Words) -> bool
-    ensures { λ r. ⌜ r ≡ soundOf w ⌝ }
-{
-    let p = w.places;
-    let transfer = w.transfer;
-    ((p.five <= 64) & ((p.six <= 128) & (p.seven <= 64))) & transfer_sound(transfer)
-}
-
-// Everything as from power.
-pub fn start(five: &mut [u16], six: &mut [u16], seven: &mut [u16]) -> Words
-    requires { ⌜ (length (now five) ≡ 64) × (length (now six) ≡ 128) × (length (now seven) ≡ 64) ⌝ }
-    ensures { λ r. ⌜ tabled r (three (now (five .exit)) (now (six .exit)) (now (seven .exit))) ≡ startOf ⌝ }
-{
-    to_starts(five, six, seven);
-    Words {
-        error: false,
-        transfer: Transfer::Idle,
-        load: [0u16; 64],
-        places: Places {
-            five: 0,
-            six: 0,
-            seven: 0,
-        },
-        given: Given::Nowhere,
-    }
-}
-
 // Closes an open transfer, which sets message error.
 pub fn close(w: Words) -> Words
     ensures { λ r. ⌜ r ≡ closeOf w ⌝ }
 {
-    let t = w.transfer;
-    match t {
-        Transfer::Idle => w,
-        Transfer::Address => wrong_way(w),
-        Transfer::Load {
-            table: _,
-            n: _,
-            k: _,
-        } => wrong_way(w),
-        Transfer::Read {
-            table: _,
-            n: _,
-            k: _,
-            start: _,
-        } => wrong_way(w),
-    }
+    let transfer = w.transfer;
+    let error = w.error | !idle(transfer);
+    with_transfer(with_error(w, error), Transfer::Idle)
 }
 
-fn wrong_way(w: Words) -> Words
-    ensures { λ r. ⌜ r ≡ wrongWay w ⌝ }
-{
-    with_error(with_transfer(w, Transfer::Idle), true)
-}
-
-// A command word; `on` says whether the pod is initialised.
+// A command word; `on` says whether the pod is initialised. It is not lent the words of a load, whatever they are.
 pub fn command(
     w: Words,
     on: bool,
@@ -162,7 +115,7 @@ pub fn command(
     seven: &mut [u16],
 ) -> Words
     requires { ⌜ (length (now five) ≡ 64) × (length (now six) ≡ 128) × (length (now seven) ≡ 64) ⌝ }
-    ensures { λ r. ⌜ tabled r (three (now (five .exit)) (now (six .exit)) (now (seven .exit))) ≡ commandOf on word (tabled w (three (now (five .entry)) (now (six .entry)) (now (seven .entry)))) ⌝ }
+    ensures { λ r. ⌜ ((l : List ℕ) → tabled r (desk (three (now (five .exit)) (now (six .exit)) (now (seven .exit))) l) ≡ commandOf on word (tabled w (desk (three (now (five .entry)) (now (six .entry)) (now (seven .entry))) l))) ⌝ }
 {
     let closed = close(w);
     let order = heard(on, word);
@@ -174,24 +127,39 @@ pub fn command(
             restarted(closed)
         }
         Order::Next => with_transfer(closed, Transfer::Address),
-        Order::Writing { table, n } => with_transfer(closed, Transfer::Load { table, n, k: 0 }),
-        Order::Reading { table, n } => read(closed, table, n),
+        Order::Writing { table, n } => {
+            let header = Header { table, n };
+            with_transfer(closed, Transfer::Load { header, k: 0 })
+        }
+        Order::Reading { table, n } => read(closed, Header { table, n }),
     }
 }
 
-// A data word written.
-pub fn data_in(w: Words, x: u16, five: &mut [u16], six: &mut [u16], seven: &mut [u16]) -> Words
-    requires { ⌜ (length (now five) ≡ 64) × (length (now six) ≡ 128) × (length (now seven) ≡ 64) × (soundOf w ≡ true) ⌝ }
-    ensures { λ r. ⌜ tabled r (three (now (five .exit)) (now (six .exit)) (now (seven .exit))) ≡ dataInOf x (tabled w (three (now (five .entry)) (now (six .entry)) (now (seven .entry)))) ⌝ }
+fn wrong_way(w: Words) -> Words
+    ensures { λ r. ⌜ r ≡ wrongWay w ⌝ }
 {
-    let t = w.transfer;
-    match t {
+    with_error(with_transfer(w, Transfer::Idle), true)
+}
+
+// A data word written. `load` holds the words of an open load as far as it has come; the rest of it is free.
+pub fn data_in(
+    w: Words,
+    x: u16,
+    load: &mut [u16; 64],
+    five: &mut [u16],
+    six: &mut [u16],
+    seven: &mut [u16],
+) -> Words
+    requires { ⌜ (length (now five) ≡ 64) × (length (now six) ≡ 128) × (length (now seven) ≡ 64) × (soundWords w ≡ true) ⌝ }
+    ensures { λ r. ⌜ tabled r (desk (three (now (five .exit)) (now (six .exit)) (now (seven .exit))) (now (load .exit))) ≡ dataInOf x (tabled w (desk (three (now (five .entry)) (now (six .entry)) (now (seven .entry))) (now (load .entry)))) ⌝ }
+{
+    let transfer = w.transfer;
+    match transfer {
         Transfer::Idle => wrong_way(w),
         Transfer::Address => with_given(with_transfer(w, Transfer::Idle), Given::At(x)),
-        Transfer::Load { table, n, k } => load_word(w, table, n, k, x, five, six, seven),
+        Transfer::Load { header, k } => load_word(w, header, k, x, load, five, six, seven),
         Transfer::Read {
-            table: _,
-            n: _,
+            header: _,
             k: _,
             start: _,
         } => wrong_way(w),
@@ -207,21 +175,17 @@ fn no_word(w: Words) -> Answered
 
 // A data word read.
 pub fn data_out(w: Words, five: &[u16], six: &[u16], seven: &[u16]) -> Answered
-    requires { ⌜ (length (now five) ≡ 64) × (length (now six) ≡ 128) × (length (now seven) ≡ 64) × (soundOf w ≡ true) ⌝ }
-    ensures { λ r. ⌜ r ≡ dataOutOf (tabled w (three (now (five .entry)) (now (six .entry)) (now (seven .entry)))) ⌝ }
+    requires { ⌜ (length (now five) ≡ 64) × (length (now six) ≡ 128) × (length (now seven) ≡ 64) × (soundWords w ≡ true) ⌝ }
+    ensures { λ r. ⌜ r ≡ dataOutOf w (three (now (five .entry)) (now (six .entry)) (now (seven .entry))) ⌝ }
 {
-    let t = w.transfer;
-    match t {
+    let transfer = w.transfer;
+    match transfer {
         Transfer::Idle => no_word(w),
         Transfer::Address => no_word(w),
-        Transfer::Load {
-            table: _,
-            n: _,
-            k: _,
-        } => no_word(w),
-        Transfer::Read { table, n, k, start } => {
-            let word = word_of(table, n, k, start, five, six, seven);
-            let words = with_transfer(w, next_read(table, n, k, start));
+        Transfer::Load { header: _, k: _ } => no_word(w),
+        Transfer::Read { header, k, start } => {
+            let word = word_of(header, k, start, five, six, seven);
+            let words = with_transfer(w, next_read(header, k, start));
             Answered { word, words }
         }
     }

@@ -2,17 +2,20 @@
 use libc::STDOUT_FILENO;
 ghost use mathlib.Core.Path.{_≡_};
 ghost use mathlib.Core.Bool.{true, not};
+ghost use mathlib.Core.List.{[]};
 ghost use Prim.Native.Nat.{_<_, _≤_};
-ghost use Rattle.tables.specs.Port.{startOf, commandOf};
+ghost use Rattle.tables.specs.Tables.{starts};
+ghost use Rattle.tables.specs.Port.{desk, tabled, startWords, commandOf};
 
 // A command word is accepted when a port just started shows no message error after it.
 fn accepted(word: u16) -> bool
-    ensures { λ r. ⌜ r ≡ not (commandOf true word startOf .words .error) ⌝ }
+    ensures { λ r. ⌜ r ≡ not (commandOf true word (tabled startWords (desk starts [])) .words .error) ⌝ }
 {
     let mut five = [0u16; 64];
     let mut six = [0u16; 128];
     let mut seven = [0u16; 64];
-    let fresh = tables::start(&mut five, &mut six, &mut seven);
+    tables::to_starts(&mut five, &mut six, &mut seven);
+    let fresh = tables::start_words();
     let after = tables::command(fresh, true, word, &mut five, &mut six, &mut seven);
     !after.error
 }

@@ -1,27 +1,32 @@
 -- `tables::command` meets its contract, order by order.
-use mathlib.Core.Path.{ap₂, _≡_, sym, ap, _∙_}
-use denote.Ref.{now}
 use borrow.Author.Needs.{needs}
-use Rattle.tables.specs.Tables.{Three, three}
-use Rattle.tables.specs.Port.{tabled, commandOf, obeyOf, tablesAfter}
+use mathlib.Core.List.{List}
+use mathlib.Core.Path.{_≡_, sym, ap, ap₂, _∙_}
+use Prim.Native.Nat.{ℕ}
+use denote.Ref.{now}
+use Rattle.tables.specs.declared.Words.{Words}
 use Rattle.tables.specs.declared.Order.{Order}
+use Rattle.tables.specs.Tables.{Three, three}
+use Rattle.tables.specs.Port.{Desk, desk, tabled, commandOf, orderObeyed, tablesAfter}
+use Rattle.tables.proofs.Orders.{order-said-one}
 use Rattle.tables.proofs.Obeying.{obeyed, beside}
 use Rattle.tables.proofs.command.Statement.{statement}
 use Rattle.tables.proofs.command.Tie as tie
 
--- the tables as they are lent
-lent : (c : tie.Start) → Three
-lent c = three (now (c .args .five)) (now (c .args .six)) (now (c .args .seven))
+-- the tables as they are lent, beside a load's words
+lent : (c : tie.Start) → List ℕ → Desk
+lent c l = desk (three (now (c .args .five)) (now (c .args .six)) (now (c .args .seven))) l
 
 -- an order that was heard is obeyed by the state that is closed
-heard-as : (c : tie.After-heard) (o : Order) → c .heard .result ≡ o
-    → tabled (obeyOf o (c .before .close .result)) (tablesAfter o (lent (c .before .before .before .before .before)))
+heard-as : (c : tie.After-heard) (o : Order) → c .heard .result ≡ o → (l : List ℕ)
+    → tabled (orderObeyed o (c .before .close .result)) (desk (tablesAfter o (lent (c .before .before .before .before .before) l .tables)) l)
     ≡ commandOf (c .before .before .before .before .before .args .on) (c .before .before .before .before .before .args .word)
-    (tabled (c .before .before .before .before .before .args .w) (lent (c .before .before .before .before .before)))
-heard-as c o e =
+    (tabled (c .before .before .before .before .before .args .w) (lent (c .before .before .before .before .before) l))
+unfolding lent
+heard-as c o e l =
     let s = c .before .before .before .before .before in
-    beside _ (ap (obeyOf o) (c .before .close .ensures))
-    ∙ sym (obeyed o (s .args .on) (s .args .word) (tabled (s .args .w) (lent s)) (sym (c .heard .ensures) ∙ e))
+    beside _ (ap (orderObeyed o) (c .before .close .ensures))
+    ∙ sym (obeyed o (s .args .on) (s .args .word) (tabled (s .args .w) (lent s l)) (sym (order-said-one _ _ (c .heard .ensures)) ∙ e))
 
 close-requires : tie.Need-close-requires
 close-requires c κs = search needs
@@ -66,14 +71,12 @@ read-requires : tie.Need-read-requires
 read-requires c κs = search needs
 
 returns : tie.Need-returns
-unfolding lent obeyOf tablesAfter
-returns c =
-    let h = c .before .before .before in
-    beside _ (c .with-error .ensures) ∙ heard-as h _ (c .before .enum-told .given .1)
+unfolding lent orderObeyed tablesAfter
+returns c = λ l. beside _ (c .with-error .ensures) ∙ heard-as (c .before .before .before) _ (c .before .enum-told .given .1) l
 
 returns-2 : tie.Need-returns-2
-unfolding lent obeyOf tablesAfter
-returns-2 c = heard-as (c .before .before) _ (c .enum-told2 .given .1)
+unfolding lent orderObeyed tablesAfter
+returns-2 c = λ l. heard-as (c .before .before) _ (c .enum-told2 .given .1) l
 
 same-length : tie.Need-same-length
 same-length c = search needs
@@ -85,29 +88,25 @@ same-length-3 : tie.Need-same-length-3
 same-length-3 c = search needs
 
 returns-3 : tie.Need-returns-3
-unfolding lent obeyOf tablesAfter
+unfolding lent orderObeyed tablesAfter
 returns-3 c =
+    λ l.
     let p = c .before .before .before .before .before .before .before in
     let m = p .before .before .before .before in
-    ap₂ tabled (c .restarted .ensures) (p .to-starts .ensures) ∙ heard-as (m .before .before) _ (m .enum-told3 .given .1)
+    ap₂ (λ (w : Words) (s : Three). tabled w (desk s l)) (c .restarted .ensures) (p .to-starts .ensures)
+    ∙ heard-as (m .before .before) _ (m .enum-told3 .given .1) l
 
 returns-4 : tie.Need-returns-4
-unfolding lent obeyOf tablesAfter
-returns-4 c =
-    let h = c .before .before .before in
-    beside _ (c .with-transfer .ensures) ∙ heard-as h _ (c .before .enum-told4 .given .1)
+unfolding lent orderObeyed tablesAfter
+returns-4 c = λ l. beside _ (c .with-transfer .ensures) ∙ heard-as (c .before .before .before) _ (c .before .enum-told4 .given .1) l
 
 returns-5 : tie.Need-returns-5
-unfolding lent obeyOf tablesAfter
-returns-5 c =
-    let h = c .before .before .before .before in
-    beside _ (c .with-transfer2 .ensures) ∙ heard-as h _ (c .before .before .order .given .1)
+unfolding lent orderObeyed tablesAfter
+returns-5 c = λ l. beside _ (c .with-transfer2 .ensures) ∙ heard-as (c .before .before .before .before) _ (c .before .before .order .given .1) l
 
 returns-6 : tie.Need-returns-6
-unfolding lent obeyOf tablesAfter
-returns-6 c =
-    let h = c .before .before .before .before in
-    beside _ (c .read .ensures) ∙ heard-as h _ (c .before .before .order2 .given .1)
+unfolding lent orderObeyed tablesAfter
+returns-6 c = λ l. beside _ (c .read .ensures) ∙ heard-as (c .before .before .before .before) _ (c .before .before .order2 .given .1) l
 
 pub command-spec : {M : Type 1} → statement M
 command-spec =

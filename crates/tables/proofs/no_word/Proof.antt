@@ -1,6 +1,6 @@
 -- `tables::no_word` meets its contract.
-use mathlib.Core.Path.{ap}
 use borrow.Author.Needs.{needs}
+use mathlib.Core.Path.{ap}
 use Rattle.tables.specs.Port.{answer}
 use Rattle.tables.proofs.no_word.Statement.{statement}
 use Rattle.tables.proofs.no_word.Tie as tie

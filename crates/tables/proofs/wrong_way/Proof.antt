@@ -1,7 +1,7 @@
 -- `tables::wrong_way` meets its contract.
-use mathlib.Core.Path.{_∙_, ap}
 use borrow.Author.Needs.{needs}
-use Rattle.tables.specs.Port.{wrongWay, failed}
+use mathlib.Core.Path.{_∙_, ap}
+use Rattle.tables.specs.Port.{wrongWay, erred}
 use Rattle.tables.proofs.wrong_way.Statement.{statement}
 use Rattle.tables.proofs.wrong_way.Tie as tie
 
@@ -13,7 +13,7 @@ with-error-requires c κs = search needs
 
 returns : tie.Need-returns
 unfolding wrongWay
-returns c = c .with-error .ensures ∙ ap failed (c .before .with-transfer .ensures)
+returns c = c .with-error .ensures ∙ ap erred (c .before .with-transfer .ensures)
 
 pub wrong-way-spec : {M : Type 1} → statement M
 wrong-way-spec = tie.close (tie.spec with-transfer-requires with-error-requires returns)

@@ -1,7 +1,7 @@
 -- `tables::asked::heard` meets its contract.
-use mathlib.Core.Path.{_∙_, ap}
 use borrow.Author.Needs.{needs}
-use Rattle.tables.specs.Command.{orderOf, heardOf}
+use mathlib.Core.Path.{_∙_, ap}
+use Rattle.tables.specs.Command.{orderOf, orderHeard, orderSaid}
 use Rattle.tables.proofs.asked.heard.Statement.{statement}
 use Rattle.tables.proofs.asked.heard.Tie as tie
 
@@ -12,12 +12,12 @@ order-requires : tie.Need-order-requires
 order-requires c κs = search needs
 
 returns : tie.Need-returns
-unfolding heardOf
-returns c = c .order .ensures ∙ ap orderOf (c .before .parts .ensures) ∙ simp (c .before .before .if1 .taken)
+unfolding orderHeard
+returns c = ap orderSaid (c .order .ensures ∙ ap orderOf (c .before .parts .ensures) ∙ simp (c .before .before .if1 .taken))
 
 returns-2 : tie.Need-returns-2
-unfolding heardOf
-returns-2 c = simp (c .if1 .left)
+unfolding orderHeard
+returns-2 c = ap orderSaid (simp (c .if1 .left))
 
 pub heard-spec : {M : Type 1} → statement M
 heard-spec = tie.close (tie.spec parts-requires order-requires returns returns-2)

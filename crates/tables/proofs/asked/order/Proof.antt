@@ -1,7 +1,8 @@
 -- `tables::asked::order` meets its contract: at each `return` the tests that led there pick the case.
-use mathlib.Core.Path.{sym, _∙_}
 use borrow.Author.Needs.{needs}
+use mathlib.Core.Path.{sym, _∙_}
 use Rattle.tables.proofs.Orders.{even-other, is-stop, is-restart, is-next, is-table, is-other}
+use Rattle.tables.proofs.Limits.{allowed-has}
 use Rattle.tables.proofs.asked.order.Statement.{statement}
 use Rattle.tables.proofs.asked.order.Tie as tie
 
@@ -40,7 +41,7 @@ allowed-requires : tie.Need-allowed-requires
 allowed-requires c κs = search needs
 
 table-order-requires : tie.Need-table-order-requires
-table-order-requires c κs = search needs
+table-order-requires c κs = allowed-has _ (sym (c .before .allowed .ensures) ∙ c .if5 .taken) .most
 
 returns-5 : tie.Need-returns-5
 returns-5 c =

@@ -7,12 +7,9 @@ use Rattle.tables.proofs.asked.parts.Tie as tie
 odd-ones-requires : tie.Need-odd-ones-requires
 odd-ones-requires c κs = search needs
 
-cast-n : tie.Need-cast-n
-cast-n c = search needs
-
 returns : tie.Need-returns
 unfolding partsOf
 returns c = simp (c .odd-ones .ensures)
 
 pub parts-spec : {M : Type 1} → statement M
-parts-spec = tie.close (tie.spec odd-ones-requires cast-n returns)
+parts-spec = tie.close (tie.spec odd-ones-requires returns)

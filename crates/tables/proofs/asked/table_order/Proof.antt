@@ -1,7 +1,7 @@
 -- `tables::asked::table_order` meets its contract.
+use borrow.Author.Needs.{needs}
 use borrow.Author.Tests.{eq-eqb, ne-eqb}
 use mathlib.Core.Path.{_∙_}
-use borrow.Author.Needs.{needs}
 use Rattle.tables.proofs.asked.table_order.Statement.{statement}
 use Rattle.tables.proofs.asked.table_order.Tie as tie
 

@@ -1,12 +1,23 @@
 -- `tables::bounds::transfer_sound` meets its contract.
-use mathlib.Core.Path.{sym, ap, ap₂, _∙_}
-use mathlib.Core.Bool.{Bool, _&&_}
-use Prim.Native.Nat.{ℕ, _+_}
-use lib.Dec.{ltb, leb}
 use borrow.Author.Needs.{needs}
+use mathlib.Core.Path.{_≡_, sym, ap, _∙_}
+use mathlib.Core.Bool.{_&&_}
+use Prim.Native.Nat.{ℕ}
+use lib.Dec.{ltb}
+use borrow.Author.Tests.{not-true, not-false}
+use Rattle.tables.specs.declared.Header.{Header}
+use Rattle.tables.specs.declared.Transfer.the-variants.{Read}
+use Rattle.tables.specs.Command.{lengthAllowed}
+use Rattle.tables.specs.Port.{dataCount, fits}
 use Rattle.tables.specs.Bounds.{soundTransfer}
+use Rattle.tables.proofs.Bool.{and-assoc}
 use Rattle.tables.proofs.bounds.transfer_sound.Statement.{statement}
 use Rattle.tables.proofs.bounds.transfer_sound.Tie as tie
+
+-- the bounds of a read are those of a load, and its end
+by-along : (h : Header) (k at : ℕ) → soundTransfer (Read h k at) ≡ (lengthAllowed (h .n) && ltb k (h .n) && fits (h .table) at (dataCount h))
+unfolding soundTransfer
+by-along h k at = sym (and-assoc (lengthAllowed (h .n)) _ _)
 
 enum-told : tie.Need-enum-told
 enum-told c = search needs
@@ -17,46 +28,40 @@ enum-told-2 c = search needs
 enum-known-t : tie.Need-enum-known-t
 enum-known-t c = search needs
 
-allowed-requires : tie.Need-allowed-requires
-allowed-requires c κs = search needs
+along-requires : tie.Need-along-requires
+along-requires c κs = search needs
 
 enum-known-t-2 : tie.Need-enum-known-t-2
 enum-known-t-2 c = search needs
 
-allowed-requires-2 : tie.Need-allowed-requires-2
-allowed-requires-2 c κs = search needs
+along-requires-2 : tie.Need-along-requires-2
+along-requires-2 c κs = search needs
 
-data-count-requires : tie.Need-data-count-requires
-data-count-requires c κs = search needs
+returns : tie.Need-returns
+returns c = rw (c .before .before .before .t2 .given .1, by-along _ _ _, sym (c .before .along2 .ensures) ∙ not-true _ (c .if1 .taken))
 
-size-requires : tie.Need-size-requires
-size-requires c κs = search needs
+cast-within : tie.Need-cast-within
+cast-within c = search needs
 
 within-requires : tie.Need-within-requires
 within-requires c κs = search needs
 
-returns : tie.Need-returns
-unfolding soundTransfer
-returns c = simp (c .enum-told .given .1)
-
 returns-2 : tie.Need-returns-2
 unfolding soundTransfer
-returns-2 c = simp (c .enum-told2 .given .1)
+returns-2 c = simp (c .enum-told .given .1)
 
 returns-3 : tie.Need-returns-3
 unfolding soundTransfer
-returns-3 c =
-    let f = c .before .before .t .given in
-    ap (λ (a : Bool). a && ltb (f .0 .1 .1 .0) (f .0 .1 .0)) (c .allowed .ensures) ∙ sym (ap soundTransfer (f .1))
+returns-3 c = simp (c .enum-told2 .given .1)
 
 returns-4 : tie.Need-returns-4
 unfolding soundTransfer
-returns-4 c =
-    let a = c .before .before .before in
-    let f = a .before .before .t2 .given in
-    ap₂ (λ (x y : Bool). x && (ltb (f .0 .1 .1 .0) (f .0 .1 .0) && y)) (a .allowed2 .ensures)
-    (c .within .ensures ∙ ap₂ (λ (k s : ℕ). leb (f .0 .1 .1 .1 .0 + k) s) (c .before .before .data-count .ensures) (c .before .size .ensures))
-    ∙ sym (ap soundTransfer (f .1))
+returns-4 c = c .along .ensures ∙ sym (ap soundTransfer (c .before .before .t .given .1))
+
+returns-5 : tie.Need-returns-5
+returns-5 c =
+    let a = c .before .before in
+    rw (a .before .before .t2 .given .1, by-along _ _ _, sym (a .along2 .ensures) ∙ not-false _ (c .before .if1 .left)) (c .within .ensures)
 
 pub transfer-sound-spec : {M : Type 1} → statement M
 transfer-sound-spec =
@@ -65,13 +70,13 @@ transfer-sound-spec =
     enum-told
     enum-told-2
     enum-known-t
-    allowed-requires
+    along-requires
     enum-known-t-2
-    allowed-requires-2
-    data-count-requires
-    size-requires
-    within-requires
+    along-requires-2
     returns
+    cast-within
+    within-requires
     returns-2
     returns-3
-    returns-4)
+    returns-4
+    returns-5)

@@ -1,11 +1,11 @@
 -- `tables::changes::restarted` meets its contract.
 use mathlib.Core.Path.{refl}
-use Rattle.tables.specs.Port.{restartOf}
+use Rattle.tables.specs.Port.{restarted}
 use Rattle.tables.proofs.changes.restarted.Statement.{statement}
 use Rattle.tables.proofs.changes.restarted.Tie as tie
 
 returns : tie.Need-returns
-unfolding restartOf
+unfolding restarted
 returns c = refl
 
 pub restarted-spec : {M : Type 1} → statement M

@@ -11,10 +11,10 @@ use Rattle.tables.proofs.loads.put_run.Statement.{statement}
 use Rattle.tables.proofs.loads.put_run.Tie as tie
 
 abbrev Inv-loop : tie.InvT-loop
-Inv-loop table₀ at count words j₀ table j = (j ≤ count) × (length table ≡ length table₀) × (table ≡ sets table₀ at (take j (drop 3 words)))
+Inv-loop at count table₀ words j₀ table j = (j ≤ count) × (length table ≡ length table₀) × (table ≡ sets table₀ at (take j (drop 3 words)))
 
 abbrev μ-loop : tie.MeasureT-loop
-μ-loop table₀ at count words j₀ table j = count - j
+μ-loop at count table₀ words j₀ table j = count - j
 
 loop-holds : tie.Need-loop-holds Inv-loop μ-loop
 loop-holds c = search needs

@@ -1,14 +1,13 @@
 -- `tables::reads::word_of` meets its contract: the word of the table that is read.
+use borrow.Author.Needs.{needs}
 use mathlib.Core.Path.{_≡_, sym, ap, _∙_, subst}
 use Prim.Native.Nat.{ℕ, _+_, _≤_, _<_}
 use native.Mathlib.Omega.{arith}
 use mathlib.Core.List.{List}
 use lib.ListN.{length}
 use denote.Ref.{now}
-use borrow.Author.Needs.{needs}
-use Rattle.tables.proofs.Reading.{size-most}
 use Rattle.tables.specs.declared.Table.{Table}
-use Rattle.tables.specs.Tables.{sizeOf, numberOf, three, wordsOf}
+use Rattle.tables.specs.Tables.{tableSize, three, wordsOf}
 use Rattle.tables.specs.Port.{dataCount, readWord}
 use Rattle.tables.proofs.reads.word_of.Statement.{statement}
 use Rattle.tables.proofs.reads.word_of.Tie as tie
@@ -17,14 +16,14 @@ use Rattle.tables.proofs.reads.word_of.Tie as tie
 wordIn : (c : tie.Start) → Table → ℕ
 wordIn c t =
     let a = c .args in
-    readWord (numberOf t) (a .n) (a .start) (wordsOf t (three (now (a .five)) (now (a .six)) (now (a .seven)))) (a .k)
+    readWord (a .h) (a .start) (wordsOf t (three (now (a .five)) (now (a .six)) (now (a .seven)))) (a .k)
 
 -- what a word of the read asks for, from a table t with its words l, where it is the one that is read
-asks : (c : tie.Start) (t : Table) (l : List ℕ) → c .args .table ≡ t → length l ≡ sizeOf t
-    → (c .args .start + dataCount (c .args .n) ≤ length l) × (c .args .k < c .args .n) × (c .args .start ≤ 128) × (c .args .n ≤ 64)
+asks : (c : tie.Start) (t : Table) (l : List ℕ) → c .args .h .table ≡ t → length l ≡ tableSize t
+    → (c .args .k < c .args .h .n) × (c .args .start + dataCount (c .args .h) ≤ length l)
 asks c t l e size =
-    let end = subst (λ (u : Table). c .args .start + dataCount (c .args .n) ≤ sizeOf u) e (c .pre .1 .2) in
-    (omega (arith, end, size), c .pre .1 .1, omega (arith, end, size-most t), c .pre .1 .0)
+    let end = subst (λ (u : Table). c .args .start + dataCount (c .args .h) ≤ tableSize u) e (c .pre .1 .1) in
+    (c .pre .1 .0, omega (arith, end, size))
 
 enum-told : tie.Need-enum-told
 enum-told c = search needs

@@ -1,4 +1,4 @@
--- `tables::loads::to_starts` meets its contract: tables 5 and 6 rise by 0 a word, table 7 by 256.
+-- `tables::starts::to_starts` meets its contract: tables 5 and 6 rise by 0 a word, table 7 by 256.
 use mathlib.Core.Path.{_≡_, _∙_, refl}
 use mathlib.Core.List.{List}
 use Prim.Native.Nat.{ℕ}
@@ -7,8 +7,8 @@ use borrow.Author.Needs.{needs}
 use Rattle.tables.specs.Tables.{three}
 use Rattle.tables.specs.declared.Table.the-variants.{Five, Six, Seven}
 use Rattle.tables.proofs.Lists.{filled}
-use Rattle.tables.proofs.loads.to_starts.Statement.{statement}
-use Rattle.tables.proofs.loads.to_starts.Tie as tie
+use Rattle.tables.proofs.starts.to_starts.Statement.{statement}
+use Rattle.tables.proofs.starts.to_starts.Tie as tie
 
 -- three equal tables
 all-three : (a b d a′ b′ d′ : List ℕ) → a ≡ a′ → b ≡ b′ → d ≡ d′ → three a b d ≡ three a′ b′ d′

@@ -1,4 +1,4 @@
--- `tables::loads::fill` meets its contract: before turn i the first i words are as the rule says, and the rest as they were.
+-- `tables::starts::fill` meets its contract: before turn i the first i words are as the rule says, and the rest as they were.
 use native.Mathlib.Nat.{mul-suc, mul-le-mul}
 use lib.ListN.{drop-of-length-le, length, drop, length-set}
 use mathlib.Core.List.{append-nil, _++_}
@@ -10,14 +10,14 @@ use denote.Ref.{now}
 use borrow.Author.Needs.{needs}
 use Rattle.tables.specs.Tables.{listed}
 use Rattle.tables.proofs.Lists.{listed-next}
-use Rattle.tables.proofs.loads.fill.Statement.{statement}
-use Rattle.tables.proofs.loads.fill.Tie as tie
+use Rattle.tables.proofs.starts.fill.Statement.{statement}
+use Rattle.tables.proofs.starts.fill.Tie as tie
 
 abbrev Inv-loop : tie.InvT-loop
-Inv-loop table₀ step i₀ word₀ table i word = (i ≤ length table₀) × (length table ≡ length table₀) × (word ≡ step * i) × (table ≡ listed (λ (k : ℕ). step * k) i ++ drop i table₀)
+Inv-loop step table₀ i₀ word₀ table i word = (i ≤ length table₀) × (length table ≡ length table₀) × (word ≡ step * i) × (table ≡ listed (λ (k : ℕ). step * k) i ++ drop i table₀)
 
 abbrev μ-loop : tie.MeasureT-loop
-μ-loop table₀ step i₀ word₀ table i word = length table₀ - i
+μ-loop step table₀ i₀ word₀ table i word = length table₀ - i
 
 loop-holds : tie.Need-loop-holds Inv-loop μ-loop
 unfolding listed
