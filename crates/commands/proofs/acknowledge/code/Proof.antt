@@ -1,63 +1,38 @@
+-- `commands::acknowledge::code` meets its contract. Assumes nothing.
+use Rattle.packets.specs.Commands.{commandPlace, commandRow}
 use borrow.Author.Needs.{needs}
 use Rattle.commands.proofs.acknowledge.code.Statement.{statement}
 use Rattle.commands.proofs.acknowledge.code.Tie as tie
-use Rattle.commands.proofs.acknowledge.code.Reads as reads
-use Rattle.commands.proofs.acknowledge.code.Lts as lts
 
--- src/acknowledge.rt:23:29
-enum-told : tie.Need-enum-told
-enum-told c = search needs
-
--- src/acknowledge.rt:24:29
-enum-told-2 : tie.Need-enum-told-2
-enum-told-2 c = search needs
-
--- src/acknowledge.rt:25:27
-enum-told-3 : tie.Need-enum-told-3
-enum-told-3 c = search needs
-
--- src/acknowledge.rt:26:27
-enum-known-exchange : tie.Need-enum-known-exchange
-enum-known-exchange c = search needs
-
--- src/acknowledge.rt:27:32
-enum-told-4 : tie.Need-enum-told-4
-enum-told-4 c = search needs
-
--- src/acknowledge.rt:28:32
-enum-told-5 : tie.Need-enum-told-5
-enum-told-5 c = search needs
-
--- src/acknowledge.rt:19:1
 returns : tie.Need-returns
-returns c = search needs
+returns c = rw (c .enum-told .given .1)
 
--- src/acknowledge.rt:19:1
 returns-2 : tie.Need-returns-2
-returns-2 c = ?
+unfolding commandRow commandPlace
+returns-2 c = rw (c .enum-told2 .given .1)
 
--- src/acknowledge.rt:19:1
 returns-3 : tie.Need-returns-3
-returns-3 c = ?
+unfolding commandRow commandPlace
+returns-3 c = rw (c .enum-told3 .given .1)
 
--- src/acknowledge.rt:19:1
 returns-4 : tie.Need-returns-4
-returns-4 c = ?
+unfolding commandRow commandPlace
+returns-4 c = rw (c .before .before .before .exchange .given .1, c .enum-told4 .given .1)
 
--- src/acknowledge.rt:19:1
 returns-5 : tie.Need-returns-5
-returns-5 c = ?
+unfolding commandRow commandPlace
+returns-5 c = rw (c .before .before .before .exchange .given .1, c .enum-told5 .given .1)
 
 pub code-spec : {M : Type 1} → statement M
 code-spec =
     tie.close
     (tie.spec
-    enum-told
-    enum-told-2
-    enum-told-3
-    enum-known-exchange
-    enum-told-4
-    enum-told-5
+    (λ c. search needs)
+    (λ c. search needs)
+    (λ c. search needs)
+    (λ c. search needs)
+    (λ c. search needs)
+    (λ c. search needs)
     returns
     returns-2
     returns-3

@@ -1,62 +1,55 @@
+-- `commands::acknowledge::drop_from` meets its contract. Assumes nothing.
+use native.Mathlib.Omega.{arith}
+use mathlib.Core.Path.{_≡_, refl}
+use mathlib.Core.Bool.{Bool, true, false, _||_}
+use lib.Dec.{eqb}
+use borrow.Author.Tests.{eqb-false}
+use Rattle.rows.proofs.Bool.{never}
+use Rattle.rules.specs.Obey.{dropFrom}
 use borrow.Author.Needs.{needs}
 use Rattle.commands.proofs.acknowledge.drop_from.Statement.{statement}
 use Rattle.commands.proofs.acknowledge.drop_from.Tie as tie
-use Rattle.commands.proofs.acknowledge.drop_from.Reads as reads
-use Rattle.commands.proofs.acknowledge.drop_from.Lts as lts
-use Rattle.blocks.proofs.capacity.Reads as capacity-reads
-use Rattle.blocks.proofs.dropped.Reads as dropped-reads
-use Rattle.commands.proofs.acknowledge.one_less.Reads as one-less-reads
-use Rattle.commands.proofs.changes.remaining_of.Reads as remaining-of-reads
-use Rattle.commands.proofs.changes.ring_of.Reads as ring-of-reads
-use Rattle.commands.proofs.changes.with_fields.Reads as with-fields-reads
-use Rattle.commands.proofs.changes.with_ring.Reads as with-ring-reads
 
--- src/acknowledge.rt:55:9
-ring-of-requires : tie.Need-ring-of-requires
-ring-of-requires c κs = search needs
+neither : (a b : Bool) → (a || b) ≡ false → (a ≡ false) × (b ≡ false)
+neither true b h = never refl h
+neither false b h = (refl, h)
 
--- src/acknowledge.rt:57:31
-remaining-of-requires : tie.Need-remaining-of-requires
-remaining-of-requires c κs = search needs
-
--- src/acknowledge.rt:58:9
 returns : tie.Need-returns
-returns c = ?
+unfolding dropFrom
+returns c = let m = c .before in rw (rw (m .remaining-of .ensures, m .before .before .before .ring-of .ensures) at (c .if1 .taken))
 
--- src/acknowledge.rt:60:32
-capacity-requires : tie.Need-capacity-requires
-capacity-requires c κs = search needs
-
--- src/acknowledge.rt:60:9
 dropped-requires : tie.Need-dropped-requires
-dropped-requires c κs = ?
+dropped-requires c κs =
+    let m = c .before .before in
+    let r = m .before .before .before in
+    let some = neither (eqb (r .ring-of .result .waiting) 0) (eqb (m .remaining-of .result) 0) (c .before .if1 .left) in
+    (rw (c .capacity .ensures, r .ring-of .ensures) (r .before .pre), omega (arith, eqb-false (r .ring-of .result .waiting) 0 (some .0)))
 
--- src/acknowledge.rt:61:32
 one-less-requires : tie.Need-one-less-requires
-one-less-requires c κs = ?
+one-less-requires c κs =
+    let m = c .before .before .before in
+    let r = m .before .before .before in
+    let some = neither (eqb (r .ring-of .result .waiting) 0) (eqb (m .remaining-of .result) 0) (c .before .before .if1 .left) in
+    omega (arith, eqb-false (m .remaining-of .result) 0 (some .1), m .remaining-of .ensures)
 
--- src/acknowledge.rt:61:15
-with-fields-requires : tie.Need-with-fields-requires
-with-fields-requires c κs = search needs
-
--- src/acknowledge.rt:61:5
-with-ring-requires : tie.Need-with-ring-requires
-with-ring-requires c κs = search needs
-
--- src/acknowledge.rt:51:1
 returns-2 : tie.Need-returns-2
-returns-2 c = ?
+unfolding dropFrom
+returns-2 c =
+    let k = c .before .before .before .before in
+    let m = k .before .before in
+    let r = m .before .before .before in
+    rw (c .with-ring .ensures, c .before .with-fields .ensures, c .before .before .one-less .ensures, c .before .before .before .dropped .ensures, k .capacity .ensures, r .ring-of .ensures, rw (m .remaining-of .ensures, r .ring-of .ensures) at (k .before .if1 .left))
 
 pub drop-from-spec : {M : Type 1} → statement M
 drop-from-spec =
     tie.close
     (tie.spec
-    ring-of-requires
-    remaining-of-requires
+    (λ c κs. search needs)
+    (λ c κs. search needs)
     returns
-    capacity-requires
+    (λ c κs. search needs)
     dropped-requires
     one-less-requires
-    with-fields-requires
-    with-ring-requires
+    (λ c κs. search needs)
+    (λ c κs. search needs)
     returns-2)

@@ -1,54 +1,39 @@
+-- `commands::acknowledge::settle` meets its contract. Assumes nothing.
+use Rattle.rules.specs.Obey.{settled}
+use Rattle.rules.proofs.Inside.{pod-in, ring-in}
 use borrow.Author.Needs.{needs}
 use Rattle.commands.proofs.acknowledge.settle.Statement.{statement}
 use Rattle.commands.proofs.acknowledge.settle.Tie as tie
-use Rattle.commands.proofs.acknowledge.settle.Reads as reads
-use Rattle.commands.proofs.acknowledge.settle.Lts as lts
-use Rattle.commands.proofs.acknowledge.drop_from.Reads as drop-from-reads
 
--- src/acknowledge.rt:70:29
-enum-told : tie.Need-enum-told
-enum-told c = search needs
-
--- src/acknowledge.rt:71:29
-enum-told-2 : tie.Need-enum-told-2
-enum-told-2 c = search needs
-
--- src/acknowledge.rt:72:27
-enum-told-3 : tie.Need-enum-told-3
-enum-told-3 c = search needs
-
--- src/acknowledge.rt:73:27
-enum-known-exchange : tie.Need-enum-known-exchange
-enum-known-exchange c = search needs
-
--- src/acknowledge.rt:73:37
 drop-from-requires : tie.Need-drop-from-requires
-drop-from-requires c κs = ?
+drop-from-requires c κs =
+    let s = c .before .before .before in
+    ring-in (pod-in (s .args .pod) (s .pre)) (c .before .exchange .given .0 .0)
 
--- src/acknowledge.rt:65:1
 returns : tie.Need-returns
-returns c = ?
+unfolding settled
+returns c = rw (c .enum-told .given .1)
 
--- src/acknowledge.rt:65:1
 returns-2 : tie.Need-returns-2
-returns-2 c = ?
+unfolding settled
+returns-2 c = rw (c .enum-told2 .given .1)
 
--- src/acknowledge.rt:65:1
 returns-3 : tie.Need-returns-3
-returns-3 c = ?
+unfolding settled
+returns-3 c = rw (c .enum-told3 .given .1)
 
--- src/acknowledge.rt:65:1
 returns-4 : tie.Need-returns-4
-returns-4 c = ?
+unfolding settled
+returns-4 c = rw (c .before .before .exchange .given .1) (c .drop-from .ensures)
 
 pub settle-spec : {M : Type 1} → statement M
 settle-spec =
     tie.close
     (tie.spec
-    enum-told
-    enum-told-2
-    enum-told-3
-    enum-known-exchange
+    (λ c. search needs)
+    (λ c. search needs)
+    (λ c. search needs)
+    (λ c. search needs)
     drop-from-requires
     returns
     returns-2

@@ -26,7 +26,7 @@ returns-3 c l =
     let shown = c .before .before .before .value2 .given in
     let v = c .before .before .before .before .before in
     let back : toZ w32 (ofZ w32 (shown .0 .0)) ≡ shown .0 .0 = search needs in
-    let is = held _ _ _ _ (v .value .ensures) (shown .1) in
+    let is = held _ _ _ (v .value .ensures) _ (shown .1) in
     rw (c .replied3 .ensures, c .before .with-exchange .ensures, back, is .1) (given-is _ _ _ (past (v .before .before .if1 .left) (past (is .0) none)))
 
 pub read-spec : {M : Type 1} → statement M

@@ -2,17 +2,20 @@
 use native.Mathlib.Omega.{arith}
 use Rattle.blocks.proofs.Places.{bounds}
 use Rattle.rules.specs.Obey.{reportOf}
-use Rattle.commands.proofs.Rings.{ring-in}
-use Rattle.blocks.specs.declared.Store.the-variants.{Priority, Ordinary}
+use Rattle.rules.proofs.Inside.{pod-in}
 use borrow.Author.Needs.{needs}
 use Rattle.commands.proofs.obeying.report.Statement.{statement}
 use Rattle.commands.proofs.obeying.report.Tie as tie
 
 cast-t4 : tie.Need-cast-t4
-cast-t4 c = let s = c .before .before .before in omega (arith, bounds 16 (s .args .pod .priority) (ring-in Priority (s .args .pod) (s .pre)) .1)
+cast-t4 c =
+    let s = c .before .before .before in
+    omega (arith, bounds 16 (s .args .pod .priority) (pod-in (s .args .pod) (s .pre) .priority) .1)
 
 cast-t5 : tie.Need-cast-t5
-cast-t5 c = let s = c .before .before .before .before in omega (arith, bounds 128 (s .args .pod .ordinary) (ring-in Ordinary (s .args .pod) (s .pre)) .1)
+cast-t5 c =
+    let s = c .before .before .before .before in
+    omega (arith, bounds 128 (s .args .pod .ordinary) (pod-in (s .args .pod) (s .pre) .ordinary) .1)
 
 returns : tie.Need-returns
 unfolding reportOf
