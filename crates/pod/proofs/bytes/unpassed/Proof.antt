@@ -1,0 +1,13 @@
+-- `pod::bytes::unpassed` meets its contract. Assumes nothing.
+use mathlib.Core.Path.{refl}
+use Rattle.pipe.specs.Input.{sentPacket}
+use Rattle.rules.specs.Refusals.{answerSaid}
+use Rattle.pod.proofs.bytes.unpassed.Statement.{statement}
+use Rattle.pod.proofs.bytes.unpassed.Tie as tie
+
+returns : tie.Need-returns
+unfolding answerSaid sentPacket
+returns c = refl
+
+pub unpassed-spec : {M : Type 1} → statement M
+unpassed-spec = tie.close (tie.spec returns)

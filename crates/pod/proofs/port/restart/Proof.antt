@@ -1,0 +1,20 @@
+-- `pod::port::restart` meets its contract. Assumes nothing.
+use Rattle.rows.proofs.Bool.{not-true, not-false}
+use borrow.Author.Needs.{needs}
+use Rattle.pod.proofs.port.restart.Statement.{statement}
+use Rattle.pod.proofs.port.restart.Tie as tie
+
+returns : tie.Need-returns
+returns c = rw (not-true {b = c .before .before .before .before .args .yes} (c .if1 .taken))
+
+to-starts-requires : tie.Need-to-starts-requires
+to-starts-requires c κs = c .before .before .before .before .before .before .before .pre
+
+returns-2 : tie.Need-returns-2
+returns-2 c =
+    let s = c .before .before .before .before .before .before in
+    let e1 = s .before .before .before .before in
+    rw (not-false {b = e1 .before .before .before .before .args .yes} (e1 .if1 .left)) (s .to-starts .ensures)
+
+pub restart-spec : {M : Type 1} → statement M
+restart-spec = tie.close (tie.spec returns to-starts-requires (λ c. search needs) (λ c. search needs) (λ c. search needs) returns-2)
