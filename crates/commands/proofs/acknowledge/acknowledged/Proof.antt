@@ -14,9 +14,14 @@ returns c =
     let i = c .before .before in
     rw (c .shut .ensures, c .before .settle .ensures, rw (i .before .code .ensures) at (i .if1 .taken))
 
-returns-2 : tie.Need-returns-2
-unfolding acknowledgedOf matches
-returns-2 c = let i = c .before in rw (c .shut2 .ensures, rw (i .before .code .ensures) at (i .if1 .left))
-
 pub acknowledged-spec : {M : Type 1} → statement M
-acknowledged-spec = tie.close (tie.spec (λ c κs. search needs) (λ c κs. search needs) (λ c κs. search needs) returns (λ c κs. search needs) returns-2)
+unfolding acknowledgedOf matches
+acknowledged-spec =
+    tie.close
+    (tie.spec
+    (λ c κs. search needs)
+    (λ c κs. search needs)
+    (λ c κs. search needs)
+    returns
+    (λ c κs. search needs)
+    (λ c. let i = c .before in rw (c .shut2 .ensures, rw (i .before .code .ensures) at (i .if1 .left))))

@@ -14,10 +14,6 @@ neither : (a b : Bool) → (a || b) ≡ false → (a ≡ false) × (b ≡ false)
 neither true b h = never refl h
 neither false b h = (refl, h)
 
-returns : tie.Need-returns
-unfolding dropFrom
-returns c = let m = c .before in rw (rw (m .remaining-of .ensures, m .before .before .before .ring-of .ensures) at (c .if1 .taken))
-
 dropped-requires : tie.Need-dropped-requires
 dropped-requires c κs =
     let m = c .before .before in
@@ -41,12 +37,13 @@ returns-2 c =
     rw (c .with-ring .ensures, c .before .with-fields .ensures, c .before .before .one-less .ensures, c .before .before .before .dropped .ensures, k .capacity .ensures, r .ring-of .ensures, rw (m .remaining-of .ensures, r .ring-of .ensures) at (k .before .if1 .left))
 
 pub drop-from-spec : {M : Type 1} → statement M
+unfolding dropFrom
 drop-from-spec =
     tie.close
     (tie.spec
     (λ c κs. search needs)
     (λ c κs. search needs)
-    returns
+    (λ c. let m = c .before in rw (rw (m .remaining-of .ensures, m .before .before .before .ring-of .ensures) at (c .if1 .taken)))
     (λ c κs. search needs)
     dropped-requires
     one-less-requires

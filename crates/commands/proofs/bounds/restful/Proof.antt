@@ -4,9 +4,6 @@ use borrow.Author.Needs.{needs}
 use Rattle.commands.proofs.bounds.restful.Statement.{statement}
 use Rattle.commands.proofs.bounds.restful.Tie as tie
 
-returns : tie.Need-returns
-unfolding restful
-returns c = cc
-
 pub restful-spec : {M : Type 1} → statement M
-restful-spec = tie.close (tie.spec (λ c κs. search needs) (λ c κs. search needs) returns)
+unfolding restful
+restful-spec = tie.close (tie.spec (λ c κs. search needs) (λ c κs. search needs) (λ c. cc))

@@ -61,11 +61,8 @@ returns-6 c =
     let i1 = c .before .before in
     rw (on (i1 .before .ring-sound .ensures) (i1 .if1 .taken), on (c .before .ring-sound2 .ensures) (c .if2 .left)) (c .if2 .left)
 
-returns-7 : tie.Need-returns-7
-unfolding soundPod
-returns-7 c = rw (on (c .before .ring-sound .ensures) (c .if1 .left)) (c .if1 .left)
-
 pub sound-spec : {M : Type 1} → statement M
+unfolding soundPod
 sound-spec =
     tie.close
     (tie.spec
@@ -82,4 +79,4 @@ sound-spec =
     returns-4
     returns-5
     returns-6
-    returns-7)
+    (λ c. rw (on (c .before .ring-sound .ensures) (c .if1 .left)) (c .if1 .left)))

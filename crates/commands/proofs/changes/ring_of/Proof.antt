@@ -3,11 +3,11 @@ use borrow.Author.Needs.{needs}
 use Rattle.commands.proofs.changes.ring_of.Statement.{statement}
 use Rattle.commands.proofs.changes.ring_of.Tie as tie
 
-returns : tie.Need-returns
-returns c = rw (c .before .enum-told .given .1) (search needs)
-
-returns-2 : tie.Need-returns-2
-returns-2 c = rw (c .before .enum-told2 .given .1) (search needs)
-
 pub ring-of-spec : {M : Type 1} → statement M
-ring-of-spec = tie.close (tie.spec (λ c. search needs) (λ c. search needs) returns returns-2)
+ring-of-spec =
+    tie.close
+    (tie.spec
+    (λ c. search needs)
+    (λ c. search needs)
+    (λ c. rw (c .before .enum-told .given .1) (search needs))
+    (λ c. rw (c .before .enum-told2 .given .1) (search needs)))

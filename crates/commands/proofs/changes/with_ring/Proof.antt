@@ -3,11 +3,11 @@ use borrow.Author.Needs.{needs}
 use Rattle.commands.proofs.changes.with_ring.Statement.{statement}
 use Rattle.commands.proofs.changes.with_ring.Tie as tie
 
-returns : tie.Need-returns
-returns c = rw (c .enum-told .given .1)
-
-returns-2 : tie.Need-returns-2
-returns-2 c = rw (c .enum-told2 .given .1)
-
 pub with-ring-spec : {M : Type 1} → statement M
-with-ring-spec = tie.close (tie.spec (λ c. search needs) (λ c. search needs) returns returns-2)
+with-ring-spec =
+    tie.close
+    (tie.spec
+    (λ c. search needs)
+    (λ c. search needs)
+    (λ c. rw (c .enum-told .given .1))
+    (λ c. rw (c .enum-told2 .given .1)))

@@ -4,9 +4,6 @@ use Rattle.rules.specs.State.{freshFields}
 use Rattle.commands.proofs.fresh.fresh_fields.Statement.{statement}
 use Rattle.commands.proofs.fresh.fresh_fields.Tie as tie
 
-returns : tie.Need-returns
-unfolding freshFields
-returns c = refl
-
 pub fresh-fields-spec : {M : Type 1} → statement M
-fresh-fields-spec = tie.close (tie.spec returns)
+unfolding freshFields
+fresh-fields-spec = tie.close (tie.spec (λ c. refl))

@@ -4,11 +4,8 @@ use borrow.Author.Needs.{needs}
 use Rattle.commands.proofs.fresh.fresh_pod.Statement.{statement}
 use Rattle.commands.proofs.fresh.fresh_pod.Tie as tie
 
-returns : tie.Need-returns
-unfolding freshPod
-returns c = cc
-
 pub fresh-pod-spec : {M : Type 1} → statement M
+unfolding freshPod
 fresh-pod-spec =
     tie.close
     (tie.spec
@@ -18,4 +15,4 @@ fresh-pod-spec =
     (λ c κs. search needs)
     (λ c κs. search needs)
     (λ c κs. search needs)
-    returns)
+    (λ c. cc))

@@ -7,10 +7,6 @@ use borrow.Author.Needs.{needs}
 use Rattle.commands.proofs.obeying.initialise.Statement.{statement}
 use Rattle.commands.proofs.obeying.initialise.Tie as tie
 
-returns : tie.Need-returns
-unfolding obeyOf checksOf replySaid
-returns c l = rw (c .replied .ensures) (refused-is _ _ _ (here (as-row (c .before .before .bounded .ensures) (c .before .if1 .taken))))
-
 returns-2 : tie.Need-returns-2
 unfolding obeyOf checksOf doneBy initialisedPod replySaid
 returns-2 c l =
@@ -19,12 +15,13 @@ returns-2 c l =
     (given-is _ _ _ (past (as-row (e1 .before .bounded .ensures) (e1 .if1 .left)) none))
 
 pub initialise-spec : {M : Type 1} → statement M
+unfolding obeyOf checksOf replySaid
 initialise-spec =
     tie.close
     (tie.spec
     (λ c κs. search needs)
     (λ c κs. search needs)
-    returns
+    (λ c l. rw (c .replied .ensures) (refused-is _ _ _ (here (as-row (c .before .before .bounded .ensures) (c .before .if1 .taken)))))
     (λ c κs. search needs)
     (λ c κs. search needs)
     (λ c κs. search needs)

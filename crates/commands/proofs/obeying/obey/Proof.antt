@@ -9,32 +9,11 @@ use borrow.Author.Needs.{needs}
 use Rattle.commands.proofs.obeying.obey.Statement.{statement}
 use Rattle.commands.proofs.obeying.obey.Tie as tie
 
-returns : tie.Need-returns
-returns c = rw (c .before .before .command .given .1) (c .initialise .ensures)
-
-returns-2 : tie.Need-returns-2
-returns-2 c = rw (c .before .enum-told .given .1) (c .status .ensures)
-
-returns-3 : tie.Need-returns-3
-returns-3 c = rw (c .before .before .command2 .given .1) (c .update .ensures)
-
 returns-4 : tie.Need-returns-4
 returns-4 c l =
     let asked = c .before .before .command3 .given in
     let back : toZ w32 (ofZ w32 (asked .0 .1 .0)) ≡ asked .0 .1 .0 = search needs in
     rw (asked .1) (c .write .ensures l ∙ ap (λ (z : ℤ). obeyOf (Write (asked .0 .0) z) l (c .before .before .before .before .args .pod)) back)
-
-returns-5 : tie.Need-returns-5
-returns-5 c = rw (c .before .before .command4 .given .1) (c .read .ensures)
-
-returns-6 : tie.Need-returns-6
-returns-6 c = rw (c .before .enum-told2 .given .1) (c .receive .ensures)
-
-returns-7 : tie.Need-returns-7
-returns-7 c = rw (c .before .enum-told3 .given .1) (c .receive2 .ensures)
-
-returns-8 : tie.Need-returns-8
-returns-8 c = rw (c .before .enum-told4 .given .1) (c .shutdown .ensures)
 
 pub obey-spec : {M : Type 1} → statement M
 obey-spec =
@@ -56,11 +35,11 @@ obey-spec =
     (λ c κs. search needs)
     (λ c. search needs)
     (λ c κs. search needs)
-    returns
-    returns-2
-    returns-3
+    (λ c. rw (c .before .before .command .given .1) (c .initialise .ensures))
+    (λ c. rw (c .before .enum-told .given .1) (c .status .ensures))
+    (λ c. rw (c .before .before .command2 .given .1) (c .update .ensures))
     returns-4
-    returns-5
-    returns-6
-    returns-7
-    returns-8)
+    (λ c. rw (c .before .before .command4 .given .1) (c .read .ensures))
+    (λ c. rw (c .before .enum-told2 .given .1) (c .receive .ensures))
+    (λ c. rw (c .before .enum-told3 .given .1) (c .receive2 .ensures))
+    (λ c. rw (c .before .enum-told4 .given .1) (c .shutdown .ensures)))

@@ -10,10 +10,6 @@ use borrow.Author.Needs.{needs}
 use Rattle.commands.proofs.obeying.read.Statement.{statement}
 use Rattle.commands.proofs.obeying.read.Tie as tie
 
-returns : tie.Need-returns
-unfolding obeyOf checksOf replySaid
-returns c l = rw (c .replied .ensures) (refused-is _ _ _ (here (c .before .if1 .taken)))
-
 returns-2 : tie.Need-returns-2
 unfolding obeyOf checksOf replySaid
 returns-2 c l =
@@ -30,11 +26,12 @@ returns-3 c l =
     rw (c .replied3 .ensures, c .before .with-exchange .ensures, back, is .1) (given-is _ _ _ (past (v .before .before .if1 .left) (past (is .0) none)))
 
 pub read-spec : {M : Type 1} → statement M
+unfolding obeyOf checksOf replySaid
 read-spec =
     tie.close
     (tie.spec
     (λ c κs. search needs)
-    returns
+    (λ c l. rw (c .replied .ensures) (refused-is _ _ _ (here (c .before .if1 .taken))))
     (λ c κs. search needs)
     (λ c. search needs)
     (λ c κs. search needs)

@@ -9,10 +9,6 @@ use borrow.Author.Needs.{needs}
 use Rattle.commands.proofs.obeying.receive.Statement.{statement}
 use Rattle.commands.proofs.obeying.receive.Tie as tie
 
-returns : tie.Need-returns
-unfolding replySaid
-returns c l = rw (c .replied .ensures, receive-is) (refused-is _ _ _ (here (c .before .if1 .taken)))
-
 returns-2 : tie.Need-returns-2
 unfolding replySaid
 returns-2 c l =
@@ -45,11 +41,12 @@ returns-4 c l =
     (past (ne-eqb _ _ (rw (f .remaining-of .ensures) at (e3 .if3 .left))) none))))
 
 pub receive-spec : {M : Type 1} → statement M
+unfolding replySaid
 receive-spec =
     tie.close
     (tie.spec
     (λ c κs. search needs)
-    returns
+    (λ c l. rw (c .replied .ensures, receive-is) (refused-is _ _ _ (here (c .before .if1 .taken))))
     (λ c κs. search needs)
     (λ c κs. search needs)
     returns-2

@@ -17,9 +17,6 @@ cast-t5 c =
     let s = c .before .before .before .before in
     omega (arith, bounds 128 (s .args .pod .ordinary) (pod-in (s .args .pod) (s .pre) .ordinary) .1)
 
-returns : tie.Need-returns
-unfolding reportOf
-returns c = rw (c .before .before .missing .ensures)
-
 pub report-spec : {M : Type 1} → statement M
-report-spec = tie.close (tie.spec (λ c κs. search needs) cast-t4 cast-t5 returns)
+unfolding reportOf
+report-spec = tie.close (tie.spec (λ c κs. search needs) cast-t4 cast-t5 (λ c. rw (c .before .before .missing .ensures)))

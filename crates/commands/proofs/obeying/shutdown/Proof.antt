@@ -6,10 +6,6 @@ use borrow.Author.Needs.{needs}
 use Rattle.commands.proofs.obeying.shutdown.Statement.{statement}
 use Rattle.commands.proofs.obeying.shutdown.Tie as tie
 
-returns : tie.Need-returns
-unfolding obeyOf checksOf replySaid
-returns c l = rw (c .replied .ensures) (refused-is _ _ _ (here (c .before .if1 .taken)))
-
 returns-2 : tie.Need-returns-2
 unfolding obeyOf checksOf doneBy replySaid
 returns-2 c l =
@@ -18,11 +14,12 @@ returns-2 c l =
     (given-is _ _ _ (past (k .before .before .if1 .left) none))
 
 pub shutdown-spec : {M : Type 1} → statement M
+unfolding obeyOf checksOf replySaid
 shutdown-spec =
     tie.close
     (tie.spec
     (λ c κs. search needs)
-    returns
+    (λ c l. rw (c .replied .ensures) (refused-is _ _ _ (here (c .before .if1 .taken))))
     (λ c κs. search needs)
     (λ c κs. search needs)
     (λ c κs. search needs)

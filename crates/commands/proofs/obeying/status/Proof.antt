@@ -6,13 +6,13 @@ use borrow.Author.Needs.{needs}
 use Rattle.commands.proofs.obeying.status.Statement.{statement}
 use Rattle.commands.proofs.obeying.status.Tie as tie
 
-returns : tie.Need-returns
-unfolding obeyOf checksOf replySaid
-returns c l = rw (c .replied .ensures) (refused-is _ _ _ (here (c .before .if1 .taken)))
-
-returns-2 : tie.Need-returns-2
-unfolding obeyOf checksOf doneBy replySaid
-returns-2 c l = rw (c .replied2 .ensures, c .before .with-exchange .ensures) (given-is _ _ _ (past (c .before .before .if1 .left) none))
-
 pub status-spec : {M : Type 1} → statement M
-status-spec = tie.close (tie.spec (λ c κs. search needs) returns (λ c κs. search needs) (λ c κs. search needs) returns-2)
+unfolding obeyOf checksOf replySaid doneBy
+status-spec =
+    tie.close
+    (tie.spec
+    (λ c κs. search needs)
+    (λ c l. rw (c .replied .ensures) (refused-is _ _ _ (here (c .before .if1 .taken))))
+    (λ c κs. search needs)
+    (λ c κs. search needs)
+    (λ c l. rw (c .replied2 .ensures, c .before .with-exchange .ensures) (given-is _ _ _ (past (c .before .before .if1 .left) none))))

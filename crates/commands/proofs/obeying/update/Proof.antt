@@ -7,10 +7,6 @@ use borrow.Author.Needs.{needs}
 use Rattle.commands.proofs.obeying.update.Statement.{statement}
 use Rattle.commands.proofs.obeying.update.Tie as tie
 
-returns : tie.Need-returns
-unfolding obeyOf checksOf replySaid
-returns c l = rw (c .replied .ensures) (refused-is _ _ _ (here (c .before .if1 .taken)))
-
 returns-2 : tie.Need-returns-2
 unfolding obeyOf checksOf replySaid
 returns-2 c l =
@@ -26,11 +22,12 @@ returns-3 c l =
     (given-is _ _ _ (past (b .before .if1 .left) (past (as-row (b .bounded .ensures) (e2 .if2 .left)) none)))
 
 pub update-spec : {M : Type 1} → statement M
+unfolding obeyOf checksOf replySaid
 update-spec =
     tie.close
     (tie.spec
     (λ c κs. search needs)
-    returns
+    (λ c l. rw (c .replied .ensures) (refused-is _ _ _ (here (c .before .if1 .taken))))
     (λ c κs. search needs)
     (λ c κs. search needs)
     returns-2

@@ -11,10 +11,6 @@ use borrow.Author.Needs.{needs}
 use Rattle.commands.proofs.obeying.write.Statement.{statement}
 use Rattle.commands.proofs.obeying.write.Tie as tie
 
-returns : tie.Need-returns
-unfolding obeyOf checksOf replySaid
-returns c l = rw (c .replied .ensures) (refused-is _ _ _ (here (c .before .if1 .taken)))
-
 returns-2 : tie.Need-returns-2
 unfolding obeyOf checksOf replySaid
 returns-2 c l =
@@ -36,11 +32,12 @@ returns-3 c l =
     (given-is _ _ _ (past (w .before .before .if1 .left) (past (as-written _ _ _ _ wrote (e2 .if2 .left)) none)))
 
 pub write-spec : {M : Type 1} → statement M
+unfolding obeyOf checksOf replySaid
 write-spec =
     tie.close
     (tie.spec
     (λ c κs. search needs)
-    returns
+    (λ c l. rw (c .replied .ensures) (refused-is _ _ _ (here (c .before .if1 .taken))))
     (λ c κs. search needs)
     (λ c κs. search needs)
     returns-2

@@ -6,16 +6,12 @@ use borrow.Author.Needs.{needs}
 use Rattle.pod.proofs.bytes.pipe_gate.Statement.{statement}
 use Rattle.pod.proofs.bytes.pipe_gate.Tie as tie
 
-returns : tie.Need-returns
-unfolding refusalNumber
-returns c = here (as-row (c .before .sound .ensures) (c .if1 .taken))
-
-returns-2 : tie.Need-returns-2
-unfolding refusalNumber
-returns-2 c = let e1 = c .before .before in after (as-row (e1 .before .sound .ensures) (e1 .if1 .left)) (here (c .if2 .taken))
-
-returns-3 : tie.Need-returns-3
-returns-3 c = let e1 = c .before .before in past (as-row (e1 .before .sound .ensures) (e1 .if1 .left)) (past (c .if2 .left) none)
-
 pub pipe-gate-spec : {M : Type 1} → statement M
-pipe-gate-spec = tie.close (tie.spec (λ c κs. search needs) returns returns-2 returns-3)
+unfolding refusalNumber
+pipe-gate-spec =
+    tie.close
+    (tie.spec
+    (λ c κs. search needs)
+    (λ c. here (as-row (c .before .sound .ensures) (c .if1 .taken)))
+    (λ c. let e1 = c .before .before in after (as-row (e1 .before .sound .ensures) (e1 .if1 .left)) (here (c .if2 .taken)))
+    (λ c. let e1 = c .before .before in past (as-row (e1 .before .sound .ensures) (e1 .if1 .left)) (past (c .if2 .left) none)))

@@ -8,17 +8,6 @@ use borrow.Author.Needs.{needs}
 use Rattle.pod.proofs.bytes.pipe_timeout.Statement.{statement}
 use Rattle.pod.proofs.bytes.pipe_timeout.Tie as tie
 
-timeout-requires : tie.Need-timeout-requires
-timeout-requires c κs =
-    let e = c .before in
-    pipe-fits _ (rw (e .enum-told .given .1) at (e .before .before .pipe-gate .ensures)) .0
-
-returns : tie.Need-returns
-unfolding pipeCall
-returns c =
-    let g = c .before .before in
-    c .unpassed .ensures ∙ refused-is _ _ _ (rw (g .gate .given .1) at (g .before .before .pipe-gate .ensures))
-
 returns-2 : tie.Need-returns-2
 unfolding pipeCall pipeOf
 returns-2 c =
@@ -26,6 +15,7 @@ returns-2 c =
     rw (c .before .timeout .ensures) at (c .passed .ensures) ∙ given-is _ _ _ (rw (e .enum-told .given .1) at (e .before .before .pipe-gate .ensures))
 
 pub pipe-timeout-spec : {M : Type 1} → statement M
+unfolding pipeCall
 pipe-timeout-spec =
     tie.close
     (tie.spec
@@ -33,7 +23,7 @@ pipe-timeout-spec =
     (λ c. search needs)
     (λ c κs. search needs)
     (λ c. search needs)
-    timeout-requires
+    (λ c κs. pipe-fits _ (rw (c .before .enum-told .given .1) at (c .before .before .before .pipe-gate .ensures)) .0)
     (λ c κs. search needs)
-    returns
+    (λ c. c .unpassed .ensures ∙ refused-is _ _ _ (rw (c .before .before .gate .given .1) at (c .before .before .before .before .pipe-gate .ensures)))
     returns-2)

@@ -5,9 +5,6 @@ use Rattle.rules.specs.Refusals.{answerSaid}
 use Rattle.pod.proofs.bytes.unpassed.Statement.{statement}
 use Rattle.pod.proofs.bytes.unpassed.Tie as tie
 
-returns : tie.Need-returns
-unfolding answerSaid sentPacket
-returns c = refl
-
 pub unpassed-spec : {M : Type 1} → statement M
-unpassed-spec = tie.close (tie.spec returns)
+unfolding answerSaid sentPacket
+unpassed-spec = tie.close (tie.spec (λ c. refl))

@@ -17,12 +17,6 @@ put-requires c κs =
     rw (k .capacity .ensures, k .before .ring-of .ensures)
     (put-fits (a .which) (now (a .block)) (now (a .store)) (a .pod) (rw (e .enum-told .given .1) at (g .put-gate .ensures)))
 
-returns : tie.Need-returns
-unfolding putCall answerSaid
-returns c =
-    let g = c .before in
-    refused-is _ _ _ (rw (g .gate .given .1) at (g .before .before .put-gate .ensures))
-
 returns-2 : tie.Need-returns-2
 unfolding putCall answerSaid
 returns-2 c =
@@ -33,6 +27,7 @@ returns-2 c =
     (given-is _ _ _ (rw (e .enum-told .given .1) at (e .before .before .put-gate .ensures)))
 
 pub put-spec : {M : Type 1} → statement M
+unfolding putCall answerSaid
 put-spec =
     tie.close
     (tie.spec
@@ -44,6 +39,6 @@ put-spec =
     put-requires
     (λ c κs. search needs)
     (λ c. search needs)
-    returns
+    (λ c. refused-is _ _ _ (rw (c .before .gate .given .1) at (c .before .before .before .put-gate .ensures)))
     (λ c. search needs)
     returns-2)

@@ -9,10 +9,6 @@ use borrow.Author.Needs.{needs}
 use Rattle.pod.proofs.camera.put_gate.Statement.{statement}
 use Rattle.pod.proofs.camera.put_gate.Tie as tie
 
-returns : tie.Need-returns
-unfolding refusalNumber
-returns c = here (as-row (c .before .sized .ensures) (c .if1 .taken))
-
 returns-2 : tie.Need-returns-2
 unfolding refusalNumber
 returns-2 c =
@@ -66,11 +62,12 @@ returns-6 c =
     (past (lt-leb _ _ (rw (k .capacity .ensures, k .before .ring-of .ensures) at (c .if5 .left))) none))))
 
 pub put-gate-spec : {M : Type 1} → statement M
+unfolding refusalNumber
 put-gate-spec =
     tie.close
     (tie.spec
     (λ c κs. search needs)
-    returns
+    (λ c. here (as-row (c .before .sized .ensures) (c .if1 .taken)))
     (λ c κs. search needs)
     returns-2
     returns-3

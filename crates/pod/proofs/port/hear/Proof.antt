@@ -7,23 +7,10 @@ use borrow.Author.Needs.{needs}
 use Rattle.pod.proofs.port.hear.Statement.{statement}
 use Rattle.pod.proofs.port.hear.Tie as tie
 
-write-error-requires : tie.Need-write-error-requires
-write-error-requires c κs = c .before .before .before .before .before .before .before .before .before .pre .room
-
-acknowledged-requires : tie.Need-acknowledged-requires
-acknowledged-requires c κs = c .before .before .before .before .before .before .before .before .pre .sound
-
 shared-slice-read-asked : tie.Need-shared-slice-read-asked
 shared-slice-read-asked c =
     let p = c .before .before in
     asked-some _ _ (sym (read-decided _ _ (p .before .before .read .ensures)) ∙ p .parsed3 .given .1)
-
-asked-requires : tie.Need-asked-requires
-asked-requires c κs = c .before .before .before .before .before .before .before .before .before .before .pre
-
-returns : tie.Need-returns
-unfolding packetHeard answered spokenBytes
-returns c l = rw (sym (read-decided _ _ (c .before .before .read .ensures)) ∙ c .enum-told .given .1)
 
 returns-2 : tie.Need-returns-2
 unfolding packetHeard answered spokenBytes replyBytes
@@ -47,20 +34,21 @@ returns-4 c l =
     rw (is, asked-first _ _ is) (k .asked .ensures l)
 
 pub hear-spec : {M : Type 1} → statement M
+unfolding packetHeard answered spokenBytes
 hear-spec =
     tie.close
     (tie.spec
     (λ c κs. search needs)
     (λ c. search needs)
     (λ c. search needs)
-    write-error-requires
+    (λ c κs. c .before .before .before .before .before .before .before .before .before .pre .room)
     (λ c κs. search needs)
     (λ c. search needs)
-    acknowledged-requires
+    (λ c κs. c .before .before .before .before .before .before .before .before .pre .sound)
     (λ c. search needs)
     shared-slice-read-asked
-    asked-requires
-    returns
+    (λ c κs. c .before .before .before .before .before .before .before .before .before .before .pre)
+    (λ c l. rw (sym (read-decided _ _ (c .before .before .read .ensures)) ∙ c .enum-told .given .1))
     (λ c. search needs)
     returns-2
     returns-3

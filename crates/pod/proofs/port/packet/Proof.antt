@@ -25,12 +25,6 @@ restart-requires c κs =
     packet-fits (now (a .room)) (now (a .priority)) (now (a .ordinary)) (three (now (a .five)) (now (a .six)) (now (a .seven))) bare (a .pod)
     (rw (e .enum-told .given .1) at (g .packet-gate .ensures bare)) .1
 
-returns : tie.Need-returns
-unfolding packetCall answerSaid
-returns c l =
-    let g = c .before in
-    refused-is _ _ _ (rw (g .gate .given .1) at (g .before .before .packet-gate .ensures l))
-
 returns-2 : tie.Need-returns-2
 unfolding packetCall answerSaid
 returns-2 c l =
@@ -43,6 +37,7 @@ returns-2 c l =
     rw (tables-moved (h .hear .result .restart) t _ _ (r .restart .ensures)) (h .hear .ensures (withTables t l) ∙ given-is _ _ _ (rw (e .enum-told .given .1) at (g .packet-gate .ensures l)))
 
 pub packet-spec : {M : Type 1} → statement M
+unfolding packetCall answerSaid
 packet-spec =
     tie.close
     (tie.spec
@@ -55,7 +50,7 @@ packet-spec =
     (λ c. search needs)
     (λ c. search needs)
     (λ c. search needs)
-    returns
+    (λ c l. refused-is _ _ _ (rw (c .before .gate .given .1) at (c .before .before .before .packet-gate .ensures l)))
     (λ c. search needs)
     (λ c. search needs)
     (λ c. search needs)

@@ -7,10 +7,6 @@ use borrow.Author.Needs.{needs}
 use Rattle.pod.proofs.port.packet_gate.Statement.{statement}
 use Rattle.pod.proofs.port.packet_gate.Tie as tie
 
-returns : tie.Need-returns
-unfolding refusalNumber
-returns c l = here (lt-ltb _ _ (c .if1 .taken))
-
 returns-2 : tie.Need-returns-2
 unfolding refusalNumber
 returns-2 c l =
@@ -36,10 +32,11 @@ returns-4 c l =
     (past (as-row (c .before .sound .ensures) (c .if3 .left)) none))
 
 pub packet-gate-spec : {M : Type 1} → statement M
+unfolding refusalNumber
 packet-gate-spec =
     tie.close
     (tie.spec
-    returns
+    (λ c l. here (lt-ltb _ _ (c .if1 .taken)))
     (λ c κs. search needs)
     (λ c κs. search needs)
     (λ c κs. search needs)

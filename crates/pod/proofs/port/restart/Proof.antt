@@ -4,12 +4,6 @@ use borrow.Author.Needs.{needs}
 use Rattle.pod.proofs.port.restart.Statement.{statement}
 use Rattle.pod.proofs.port.restart.Tie as tie
 
-returns : tie.Need-returns
-returns c = rw (not-true {b = c .before .before .before .before .args .yes} (c .if1 .taken))
-
-to-starts-requires : tie.Need-to-starts-requires
-to-starts-requires c κs = c .before .before .before .before .before .before .before .pre
-
 returns-2 : tie.Need-returns-2
 returns-2 c =
     let s = c .before .before .before .before .before .before in
@@ -17,4 +11,12 @@ returns-2 c =
     rw (not-false {b = e1 .before .before .before .before .args .yes} (e1 .if1 .left)) (s .to-starts .ensures)
 
 pub restart-spec : {M : Type 1} → statement M
-restart-spec = tie.close (tie.spec returns to-starts-requires (λ c. search needs) (λ c. search needs) (λ c. search needs) returns-2)
+restart-spec =
+    tie.close
+    (tie.spec
+    (λ c. rw (not-true {b = c .before .before .before .before .args .yes} (c .if1 .taken)))
+    (λ c κs. c .before .before .before .before .before .before .before .pre)
+    (λ c. search needs)
+    (λ c. search needs)
+    (λ c. search needs)
+    returns-2)

@@ -13,21 +13,6 @@ use borrow.Author.Needs.{needs}
 use Rattle.pod.proofs.port.write_reply.Statement.{statement}
 use Rattle.pod.proofs.port.write_reply.Tie as tie
 
-write-done-requires : tie.Need-write-done-requires
-write-done-requires c κs = c .before .before .before .before .before .before .pre .0 .room
-
-write-error-requires : tie.Need-write-error-requires
-write-error-requires c κs = c .before .before .before .before .before .before .before .pre .0 .room
-
-report-requires : tie.Need-report-requires
-report-requires c κs = c .before .before .before .before .before .before .pre .0 .sound
-
-write-status-requires : tie.Need-write-status-requires
-write-status-requires c κs = c .before .before .before .before .before .before .before .pre .0 .room
-
-write-value-requires : tie.Need-write-value-requires
-write-value-requires c κs = c .before .before .before .before .before .before .before .pre .0 .room
-
 oldest-requires : tie.Need-oldest-requires
 unfolding replySaid
 oldest-requires c κs =
@@ -48,14 +33,6 @@ write-data-requires c κs =
           ∙ block-whole (shown .0 .0) h (r .ring-of .result) (rw (r .ring-of .ensures) (ring-in (pod-in (s .args .pod) (h .sound)) (shown .0 .0)))
           (rw (r .ring-of .ensures) (s .pre .1 (shown .0 .0) (ap replySaid (shown .1)))),
     )
-
-returns : tie.Need-returns
-unfolding replyBytes replySaid meantBody doneAnswer
-returns c l = rw (c .before .before .before .before .enum-told .given .1) (c .before .before .write-done .ensures)
-
-returns-2 : tie.Need-returns-2
-unfolding replyBytes replySaid
-returns-2 c l = rw (c .before .before .before .before .before .reply .given .1) (c .before .before .write-error .ensures)
 
 returns-3 : tie.Need-returns-3
 unfolding replyBytes replySaid meantBody statusAnswer
@@ -79,26 +56,27 @@ returns-5 c l =
     rw (r .before .before .reply3 .given .1, stores-in) (rw (d .before .before .oldest .ensures, r .ring-of .ensures) at (d .write-data .ensures))
 
 pub write-reply-spec : {M : Type 1} → statement M
+unfolding replyBytes replySaid meantBody doneAnswer
 write-reply-spec =
     tie.close
     (tie.spec
     (λ c. search needs)
-    write-done-requires
+    (λ c κs. c .before .before .before .before .before .before .pre .0 .room)
     (λ c. search needs)
-    write-error-requires
+    (λ c κs. c .before .before .before .before .before .before .before .pre .0 .room)
     (λ c. search needs)
-    report-requires
-    write-status-requires
+    (λ c κs. c .before .before .before .before .before .before .pre .0 .sound)
+    (λ c κs. c .before .before .before .before .before .before .before .pre .0 .room)
     (λ c. search needs)
-    write-value-requires
+    (λ c κs. c .before .before .before .before .before .before .before .pre .0 .room)
     (λ c. search needs)
     (λ c κs. search needs)
     oldest-requires
     write-data-requires
     (λ c. search needs)
-    returns
+    (λ c l. rw (c .before .before .before .before .enum-told .given .1) (c .before .before .write-done .ensures))
     (λ c. search needs)
-    returns-2
+    (λ c l. rw (c .before .before .before .before .before .reply .given .1) (c .before .before .write-error .ensures))
     (λ c. search needs)
     returns-3
     (λ c. search needs)

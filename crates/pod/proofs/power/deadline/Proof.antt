@@ -9,10 +9,6 @@ use borrow.Author.Needs.{needs}
 use Rattle.pod.proofs.power.deadline.Statement.{statement}
 use Rattle.pod.proofs.power.deadline.Tie as tie
 
-returns : tie.Need-returns
-unfolding deadlineCall answerSaid refusalNumber
-returns c = refused-is _ _ _ (here (as-row (c .before .sound .ensures) (c .if1 .taken)))
-
 returns-2 : tie.Need-returns-2
 unfolding deadlineCall answerSaid
 returns-2 c =
@@ -20,4 +16,11 @@ returns-2 c =
     rw (c .shut .ensures) (given-is _ _ _ (past (as-row (e1 .before .sound .ensures) (e1 .if1 .left)) none))
 
 pub deadline-spec : {M : Type 1} → statement M
-deadline-spec = tie.close (tie.spec (λ c κs. search needs) returns (λ c κs. search needs) returns-2)
+unfolding deadlineCall answerSaid refusalNumber
+deadline-spec =
+    tie.close
+    (tie.spec
+    (λ c κs. search needs)
+    (λ c. refused-is _ _ _ (here (as-row (c .before .sound .ensures) (c .if1 .taken))))
+    (λ c κs. search needs)
+    returns-2)

@@ -12,10 +12,6 @@ use borrow.Author.Needs.{needs}
 use Rattle.pod.proofs.power.power_on.Statement.{statement}
 use Rattle.pod.proofs.power.power_on.Tie as tie
 
-returns : tie.Need-returns
-unfolding powerCall answerSaid refusalNumber
-returns c = refused-is _ _ _ (here (as-row (c .before .sized .ensures) (c .if1 .taken)))
-
 to-starts-requires : tie.Need-to-starts-requires
 to-starts-requires c κs =
     let e1 = c .before .before .before in
@@ -31,6 +27,7 @@ returns-2 c =
     ∙ given-is _ _ _ (past (as-row (e1 .before .sized .ensures) (e1 .if1 .left)) none))
 
 pub power-on-spec : {M : Type 1} → statement M
+unfolding powerCall answerSaid refusalNumber
 power-on-spec =
     tie.close
     (tie.spec
@@ -38,7 +35,7 @@ power-on-spec =
     (λ c. search needs)
     (λ c. search needs)
     (λ c. search needs)
-    returns
+    (λ c. refused-is _ _ _ (here (as-row (c .before .sized .ensures) (c .if1 .taken))))
     to-starts-requires
     (λ c κs. search needs)
     (λ c. search needs)

@@ -12,12 +12,6 @@ two-frames-requires c κs =
     let e = c .before in
     samples-fit _ _ _ (rw (e .enum-told .given .1) at (e .before .before .samples-gate .ensures))
 
-returns : tie.Need-returns
-unfolding samplesCall answerSaid
-returns c =
-    let g = c .before in
-    refused-is _ _ _ (rw (g .gate .given .1) at (g .before .before .samples-gate .ensures))
-
 returns-2 : tie.Need-returns-2
 unfolding samplesCall answerSaid
 returns-2 c =
@@ -25,4 +19,13 @@ returns-2 c =
     rw (c .two-frames .ensures) (given-is _ _ _ (rw (e .enum-told .given .1) at (e .before .before .samples-gate .ensures)))
 
 pub samples-spec : {M : Type 1} → statement M
-samples-spec = tie.close (tie.spec (λ c κs. search needs) (λ c. search needs) (λ c. search needs) two-frames-requires returns returns-2)
+unfolding samplesCall answerSaid
+samples-spec =
+    tie.close
+    (tie.spec
+    (λ c κs. search needs)
+    (λ c. search needs)
+    (λ c. search needs)
+    two-frames-requires
+    (λ c. refused-is _ _ _ (rw (c .before .gate .given .1) at (c .before .before .before .samples-gate .ensures)))
+    returns-2)

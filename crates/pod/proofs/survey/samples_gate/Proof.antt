@@ -9,10 +9,6 @@ use borrow.Author.Needs.{needs}
 use Rattle.pod.proofs.survey.samples_gate.Statement.{statement}
 use Rattle.pod.proofs.survey.samples_gate.Tie as tie
 
-returns : tie.Need-returns
-unfolding refusalNumber
-returns c = here (as-row (c .before .sound .ensures) (c .if1 .taken))
-
 returns-2 : tie.Need-returns-2
 unfolding refusalNumber
 returns-2 c =
@@ -33,4 +29,13 @@ returns-4 c =
     past (as-row (e1 .before .sound .ensures) (e1 .if1 .left)) (past (ap not (eq-eqb _ _ (e2 .if2 .left))) (past (rw (c .before .bounded .ensures) at (c .if3 .left)) none))
 
 pub samples-gate-spec : {M : Type 1} → statement M
-samples-gate-spec = tie.close (tie.spec (λ c κs. search needs) returns returns-2 (λ c κs. search needs) returns-3 returns-4)
+unfolding refusalNumber
+samples-gate-spec =
+    tie.close
+    (tie.spec
+    (λ c κs. search needs)
+    (λ c. here (as-row (c .before .sound .ensures) (c .if1 .taken)))
+    returns-2
+    (λ c κs. search needs)
+    returns-3
+    returns-4)

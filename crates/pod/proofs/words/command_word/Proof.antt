@@ -16,12 +16,6 @@ command-requires c κs =
     let e = c .before .before .before in
     words-fit _ _ (rw (e .enum-told .given .1) at (e .before .before .word-gate .ensures)) .0
 
-returns : tie.Need-returns
-unfolding wordCall wordLent answerSaid
-returns c l =
-    let g = c .before in
-    refused-is _ _ _ (rw (g .gate .given .1) at (g .before .before .word-gate .ensures))
-
 returns-2 : tie.Need-returns-2
 unfolding wordCall wordOf wordLent answerSaid
 returns-2 c l =
@@ -32,6 +26,7 @@ returns-2 c l =
     ∙ given-is _ _ _ (rw (e .enum-told .given .1) at (e .before .before .word-gate .ensures))
 
 pub command-word-spec : {M : Type 1} → statement M
+unfolding wordCall wordLent answerSaid
 command-word-spec =
     tie.close
     (tie.spec
@@ -42,7 +37,7 @@ command-word-spec =
     (λ c. search needs)
     (λ c. search needs)
     (λ c. search needs)
-    returns
+    (λ c l. refused-is _ _ _ (rw (c .before .gate .given .1) at (c .before .before .before .word-gate .ensures)))
     (λ c. search needs)
     (λ c. search needs)
     (λ c. search needs)

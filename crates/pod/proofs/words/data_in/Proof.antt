@@ -17,12 +17,6 @@ data-in-requires c κs =
     let fit = words-fit _ _ (rw (e .enum-told .given .1) at (e .before .before .word-gate .ensures)) in
     (fit .0 .0, fit .0 .1, fit .0 .2, fit .1)
 
-returns : tie.Need-returns
-unfolding wordCall wordLent answerSaid
-returns c =
-    let g = c .before in
-    refused-is _ _ _ (rw (g .gate .given .1) at (g .before .before .word-gate .ensures))
-
 returns-2 : tie.Need-returns-2
 unfolding wordCall wordOf wordLent answerSaid
 returns-2 c =
@@ -33,6 +27,7 @@ returns-2 c =
     ∙ given-is _ _ _ (rw (e .enum-told .given .1) at (e .before .before .word-gate .ensures))
 
 pub data-in-spec : {M : Type 1} → statement M
+unfolding wordCall wordLent answerSaid
 data-in-spec =
     tie.close
     (tie.spec
@@ -43,7 +38,7 @@ data-in-spec =
     (λ c. search needs)
     (λ c. search needs)
     (λ c. search needs)
-    returns
+    (λ c. refused-is _ _ _ (rw (c .before .gate .given .1) at (c .before .before .before .word-gate .ensures)))
     (λ c. search needs)
     (λ c. search needs)
     (λ c. search needs)

@@ -13,12 +13,6 @@ data-out-requires c κs =
     let fit = words-fit _ _ (rw (c .enum-told .given .1) at (c .before .before .word-gate .ensures)) in
     (fit .0 .0, fit .0 .1, fit .0 .2, fit .1)
 
-returns : tie.Need-returns
-unfolding wordCall wordLent answerSaid
-returns c l =
-    let g = c .before in
-    refused-is _ _ _ (rw (g .gate .given .1) at (g .before .before .word-gate .ensures))
-
 returns-2 : tie.Need-returns-2
 unfolding wordCall wordOf wordLent answerSaid
 returns-2 c l =
@@ -26,4 +20,13 @@ returns-2 c l =
     rw (c .before .data-out .ensures) (given-is _ _ _ (rw (e .enum-told .given .1) at (e .before .before .word-gate .ensures)))
 
 pub data-out-spec : {M : Type 1} → statement M
-data-out-spec = tie.close (tie.spec (λ c κs. search needs) (λ c. search needs) (λ c. search needs) data-out-requires returns returns-2)
+unfolding wordCall wordLent answerSaid
+data-out-spec =
+    tie.close
+    (tie.spec
+    (λ c κs. search needs)
+    (λ c. search needs)
+    (λ c. search needs)
+    data-out-requires
+    (λ c l. refused-is _ _ _ (rw (c .before .gate .given .1) at (c .before .before .before .word-gate .ensures)))
+    returns-2)

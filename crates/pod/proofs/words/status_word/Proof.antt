@@ -9,10 +9,6 @@ use borrow.Author.Needs.{needs}
 use Rattle.pod.proofs.words.status_word.Statement.{statement}
 use Rattle.pod.proofs.words.status_word.Tie as tie
 
-returns : tie.Need-returns
-unfolding wordCall wordLent answerSaid refusalNumber
-returns c d = refused-is _ _ _ (here (as-row (c .before .sound .ensures) (c .if1 .taken)))
-
 returns-2 : tie.Need-returns-2
 unfolding wordCall wordOf wordLent answerSaid
 returns-2 c d =
@@ -20,4 +16,11 @@ returns-2 c d =
     rw (c .before .status .ensures) (given-is _ _ _ (past (as-row (e1 .before .sound .ensures) (e1 .if1 .left)) none))
 
 pub status-word-spec : {M : Type 1} → statement M
-status-word-spec = tie.close (tie.spec (λ c κs. search needs) returns (λ c κs. search needs) returns-2)
+unfolding wordCall wordLent answerSaid refusalNumber
+status-word-spec =
+    tie.close
+    (tie.spec
+    (λ c κs. search needs)
+    (λ c d. refused-is _ _ _ (here (as-row (c .before .sound .ensures) (c .if1 .taken))))
+    (λ c κs. search needs)
+    returns-2)

@@ -6,10 +6,6 @@ use borrow.Author.Needs.{needs}
 use Rattle.pod.proofs.words.word_gate.Statement.{statement}
 use Rattle.pod.proofs.words.word_gate.Tie as tie
 
-returns : tie.Need-returns
-unfolding refusalNumber
-returns c = here (as-row (c .before .sized .ensures) (c .if1 .taken))
-
 returns-2 : tie.Need-returns-2
 unfolding refusalNumber
 returns-2 c =
@@ -22,4 +18,12 @@ returns-3 c =
     past (as-row (e1 .before .sized .ensures) (e1 .if1 .left)) (past (as-row (c .before .sound .ensures) (c .if2 .left)) none)
 
 pub word-gate-spec : {M : Type 1} → statement M
-word-gate-spec = tie.close (tie.spec (λ c κs. search needs) returns (λ c κs. search needs) returns-2 returns-3)
+unfolding refusalNumber
+word-gate-spec =
+    tie.close
+    (tie.spec
+    (λ c κs. search needs)
+    (λ c. here (as-row (c .before .sized .ensures) (c .if1 .taken)))
+    (λ c κs. search needs)
+    returns-2
+    returns-3)
