@@ -1,32 +1,15 @@
--- Bytes of a store: what a run of stores changes and what it keeps, and when two blocks are equal.
-use Prim.Native.Nat.{ℕ, suc, _+_, _*_, _≤_, _<_}
+-- Bytes of a store: what a block written at a place changes and what it keeps, and when two blocks are equal.
+use Prim.Native.Nat.{ℕ, _+_, _*_, _≤_, _<_}
 use native.Mathlib.Omega.{arith}
-use native.Mathlib.Nat.{add-zero}
-use mathlib.Core.Path.{_≡_, refl, sym, ap, _∙_}
-use mathlib.Core.List.{List, [], _∷_, _++_, append-assoc}
-use lib.ListN.{length, take, drop, getD, set, length-drop}
-use lib.Seq.{sets, sets-eq, length-sets, ext-getD, getD-take, getD-drop, getD-set-other, length-take-le, take-at, drop-at}
+use mathlib.Core.Path.{_≡_, sym, ap, _∙_}
+use mathlib.Core.List.{List, _++_, append-assoc}
+use lib.ListN.{length, take, drop, getD, length-drop}
+use lib.Seq.{sets, sets-eq, length-sets, ext-getD, getD-take, getD-drop, length-take-le, take-at, drop-at}
 use lib.Dec.{ltb}
 use borrow.Author.Tests.{ltb-true, ltb-false}
 use Rattle.rows.proofs.Bool.{split}
+use Rattle.numbers.proofs.Stores.{sets-before, sets-behind}
 use Rattle.blocks.specs.Stores.{blockAt}
-
--- one store more at the end of a run
-pub sets-more : (vs l : List ℕ) (i a : ℕ) → sets l i (vs ++ (a ∷ [])) ≡ set (sets l i vs) (i + length vs) a
-sets-more [] l i a = ap (λ (k : ℕ). set l k a) (sym (add-zero i))
-sets-more (v ∷ vs) l i a =
-    let e : suc i + length vs ≡ i + suc (length vs) = omega arith in
-    sets-more vs (set l i v) (suc i) a ∙ ap (λ (k : ℕ). set (sets (set l i v) (suc i) vs) k a) e
-
--- a run of stores keeps each byte before it ..
-pub sets-before : (vs l : List ℕ) (i k : ℕ) → k < i → getD (sets l i vs) k 0 ≡ getD l k 0
-sets-before [] l i k h = refl
-sets-before (v ∷ vs) l i k h = sets-before vs (set l i v) (suc i) k (omega arith) ∙ getD-set-other l i k v 0 (λ e. omega arith)
-
--- .. and each byte behind it
-pub sets-behind : (vs l : List ℕ) (i k : ℕ) → i + length vs ≤ k → getD (sets l i vs) k 0 ≡ getD l k 0
-sets-behind [] l i k h = refl
-sets-behind (v ∷ vs) l i k h = sets-behind vs (set l i v) (suc i) k (omega arith) ∙ getD-set-other l i k v 0 (λ e. omega arith)
 
 -- a place in the store has its 256 bytes there
 pub block-length : (s : List ℕ) (i : ℕ) → i * 256 + 256 ≤ length s → length (blockAt s i) ≡ 256

@@ -11,7 +11,8 @@ use Rattle.blocks.specs.declared.Ring.{Ring}
 use Rattle.blocks.specs.Stores.{soundRing, emptyRing, placeBehind, blockAt, blocksFrom, blocksIn, oldestOf, putRing, putStore, droppedRing}
 use Rattle.blocks.proofs.Places.{bounds, within, place-in, place-next, place-apart, place-all}
 use Rattle.blocks.proofs.Line.{from-length, from-at, from-more, from-same, from-drop, from-first}
-use Rattle.blocks.proofs.Bytes.{sets-before, sets-behind, block-length, block-same, block-there, block-other}
+use Rattle.numbers.proofs.Stores.{sets-before, sets-behind}
+use Rattle.blocks.proofs.Bytes.{block-length, block-same, block-there, block-other}
 
 headed : (q : List (List ℕ)) → 0 < length q → q ≡ getD q 0 [] ∷ drop 1 q
 headed [] h = absurd (omega arith)

@@ -1,9 +1,9 @@
 // A store of 256-byte blocks as a ring over lent bytes: once, for any capacity.
+use numbers::copy;
 ghost use mathlib.Core.Path.{_≡_};
 ghost use mathlib.Core.Bool.{true};
 ghost use Prim.Native.Nat.{_+_, _*_, _<_, _≤_};
 ghost use lib.ListN.{length};
-ghost use lib.Seq.{sets};
 ghost use Rattle.blocks.specs.Stores.{capacityOf, storeSized, storeOf, soundRing, emptyRing, placeBehind, blockAt, oldestOf, putRing, putStore, droppedRing};
 
 // Which of the two stores.
@@ -64,18 +64,6 @@ fn place(capacity: usize, from: usize, k: usize) -> usize
     if k < ahead { from + k } else { k - ahead }
 }
 
-// Copies a block into the store, from a byte on.
-fn copy_in(store: &mut [u8], from: usize, block: &[u8])
-    requires { ⌜ (length (now block) ≡ 256) × (from + 256 ≤ length (now store)) ⌝ }
-    ensures { λ _. ⌜ now (store .exit) ≡ sets (now (store .entry)) from (now (block .entry)) ⌝ }
-{
-    let mut j = 0;
-    while j < BLOCK {
-        store[from + j] = block[j];
-        j += 1;
-    }
-}
-
 // The block goes behind the others; no other byte changes.
 pub fn put(capacity: usize, ring: Ring, store: &mut [u8], block: &[u8]) -> Ring
     requires { ⌜ (soundRing capacity ring ≡ true) × (ring .waiting < capacity) ⌝ }
@@ -87,7 +75,7 @@ pub fn put(capacity: usize, ring: Ring, store: &mut [u8], block: &[u8]) -> Ring
     let waiting = ring.waiting;
     let more = waiting + 1;
     let behind = place(capacity, oldest, waiting);
-    copy_in(store, behind * BLOCK, block);
+    copy(store, behind * BLOCK, block);
     Ring {
         oldest,
         waiting: more,

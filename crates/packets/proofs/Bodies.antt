@@ -6,7 +6,7 @@ use mathlib.Core.Path.{_≡_, refl}
 use lib.IntN.{ℤ}
 use lib.ListN.{length}
 use Rattle.packets.specs.declared.Report.{Report}
-use Rattle.packets.specs.Numbers.{highFirst}
+use Rattle.numbers.specs.Numbers.{highFirst}
 use Rattle.packets.specs.Answers.{statusBody, valueBody}
 
 pub value-body-length : (id : ℕ) (v : ℤ) → length (valueBody id v) ≡ 5

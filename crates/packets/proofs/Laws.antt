@@ -1,6 +1,6 @@
 -- What callers may want to know of packets and answers, without opening a definition.
 -- Assumes nothing.
-use Prim.Native.Nat.{ℕ, suc, _+_, _^_, _/_, _<_, _≤_, _-_}
+use Prim.Native.Nat.{ℕ, _+_, _<_, _≤_, _-_}
 use native.Mathlib.Omega.{arith}
 use mathlib.Core.Path.{_≡_, refl, sym, ap, _∙_}
 use mathlib.Core.List.{List, [], _∷_}
@@ -10,7 +10,6 @@ use borrow.Author.Tests.{leb-true, le-leb, eqb-true}
 use lib.Dec.{leb, eqb}
 use lib.IntN.{ℤ, pos, negsuc}
 use lib.ListN.{length, getD, take, drop}
-use lib.Signed.{mag}
 use Rattle.crc.specs.Crc.{crcOf}
 use Rattle.packets.specs.declared.Fields.{Fields}
 use Rattle.packets.specs.declared.Report.{Report}
@@ -18,13 +17,11 @@ use Rattle.packets.specs.declared.Command.{Command}
 use Rattle.packets.specs.declared.Command.the-variants.{Initialise, Status, Update, Write, Read, Priority, Data, Shutdown}
 use Rattle.packets.specs.declared.Parsed.{Parsed}
 use Rattle.packets.specs.declared.Parsed.the-variants.{Nothing, Error, Acknowledgement, Asked}
-use Rattle.packets.specs.Numbers.{highFirst, numberOf, signedOf, unsignedOf}
+use Rattle.numbers.specs.Numbers.{highFirst}
 use Rattle.packets.specs.Commands.{fieldsBounded, findIn, listedIn, codeRow, isCode, commandPlace, commandRow, parsedSaid}
 use Rattle.packets.specs.Reading.{first, crcRight, packetRead}
 use Rattle.packets.specs.Answers.{withCrc, answerOf, errorAnswer, doneAnswer, statusBody, statusAnswer, valueBody, valueAnswer, dataAnswer, fieldBytes, bodyOf, commandBytes}
 use Rattle.packets.proofs.Sendable.{Sendable}
-use Rattle.packets.proofs.Digits.{number-back}
-use Rattle.packets.proofs.Complement.{signed-back}
 use Rattle.rows.proofs.Bool.{split}
 use Rattle.packets.proofs.Checks.{empty, short, damaged}
 use Rattle.packets.proofs.Room.{answer-length}
@@ -81,16 +78,6 @@ error-first p f n e = let x = taken-first p (Error f n) e (λ z. let y : _≡_ {
 pub asked-first : (p : List ℕ) (c : Command) → packetRead p ≡ Asked c → commandRow c .code ≡ first p
 unfolding parsedSaid
 asked-first p c e = let x = taken-first p (Asked c) e (λ z. let y : _≡_ {A = ℕ} 0 1 = cc in omega arith) in cc
-
--- ---- numbers
-
--- reading what was written gives it back: n bytes, high byte first
-pub written-number : (n x : ℕ) → x < 256 ^ n → numberOf (highFirst n x) ≡ x
-written-number = number-back
-
--- and a signed number of n + 1 bytes
-pub written-signed : (n : ℕ) (v : ℤ) → mag v < 256 ^ suc n / 2 → signedOf (suc n) (unsignedOf (suc n) v) ≡ v
-written-signed = signed-back
 
 -- ---- answers
 

@@ -1,6 +1,3 @@
-pub mod Digits
-pub mod Complement
-pub mod Stores
 pub mod Rows
 pub mod Checks
 pub mod Room

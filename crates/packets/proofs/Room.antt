@@ -3,15 +3,15 @@
 use Prim.Native.Nat.{ℕ, _+_, _≤_, _-_}
 use native.Mathlib.Omega.{arith}
 use native.Mathlib.Nat.{zero-add}
-use mathlib.Core.Path.{_≡_, _∙_}
+use mathlib.Core.Path.{_≡_, ap, _∙_}
 use mathlib.Core.List.{List, [], _∷_, _++_}
 use lib.ListN.{length, take, drop, length-append}
-use lib.Seq.{sets, sets-eq, take-append-seam}
+use lib.Seq.{sets, sets-eq, length-sets, take-append-seam}
 use Rattle.crc.specs.Crc.{crcOf}
-use Rattle.packets.specs.Numbers.{highFirst}
+use Rattle.numbers.specs.Numbers.{highFirst}
 use Rattle.packets.specs.Answers.{withCrc, answerOf, Written}
-use Rattle.packets.proofs.Stores.{sets-append, lent}
-use Rattle.packets.proofs.Digits.{high-first-length}
+use Rattle.numbers.proofs.Stores.{sets-append, lent}
+use Rattle.numbers.proofs.Digits.{high-first-length}
 
 -- the CRC of what stands there, written behind it
 closed-there : (room head : List ℕ) (end : ℕ) → end ≡ length head → end ≤ length room
@@ -39,6 +39,6 @@ pub answered : (room : List ℕ) (f s : ℕ) (body two ys room′ : List ℕ) (k
 unfolding answerOf
 answered room f s body two ys room′ k end n et ek ee h y c =
     record {
-      room = c .0 ∙ rw (lent two ys body 2 k ek y, et) (closed-there room (f ∷ s ∷ body) end (omega arith) h);
+      room = c .0 ∙ rw (lent two ys body 2 k (omega (arith, ap length et, length-sets room 0 (f ∷ s ∷ []))) ek y, et) (closed-there room (f ∷ s ∷ body) end (omega arith) h);
       count = omega (arith, c .1, answer-length f s body);
     }

@@ -14,13 +14,13 @@ use Rattle.packets.specs.declared.Fields.{Fields}
 use Rattle.packets.specs.declared.Command.{Command}
 use Rattle.packets.specs.declared.Command.the-variants.{Initialise, Status, Update, Write, Read, Priority, Data, Shutdown}
 use Rattle.packets.specs.declared.Parsed.the-variants.{Acknowledgement, Asked}
-use Rattle.packets.specs.Numbers.{highFirst, numberOf, numberAt, signedOf, unsignedOf}
+use Rattle.numbers.specs.Numbers.{highFirst, numberOf, numberAt, signedOf, unsignedOf}
 use Rattle.packets.specs.Commands.{fieldsIn, findIn, listedIn, codeRow, isCode, commandPlace, commandRow}
 use Rattle.packets.specs.Reading.{first, second, crcRight, acknowledges, packetRead}
 use Rattle.packets.specs.Answers.{withCrc, answerOf, errorAnswer, doneAnswer, valueBody, fieldBytes, bodyOf, commandBytes}
 use Rattle.packets.proofs.Sendable.{FieldsFit, Sendable}
-use Rattle.packets.proofs.Digits.{high-first-length, number-back}
-use Rattle.packets.proofs.Complement.{signed-back, unsigned-below}
+use Rattle.numbers.proofs.Digits.{high-first-length, number-back}
+use Rattle.numbers.proofs.Complement.{signed-back, unsigned-below}
 use Rattle.packets.proofs.Checks.{acknowledged, asked}
 
 -- the last two bytes of what was closed, and the rest

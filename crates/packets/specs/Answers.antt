@@ -11,7 +11,7 @@ use Rattle.packets.specs.declared.Fields.{Fields}
 use Rattle.packets.specs.declared.Command.{Command}
 use Rattle.packets.specs.declared.Command.the-variants.{Initialise, Status, Update, Write, Read, Priority, Data, Shutdown}
 use Rattle.packets.specs.declared.Report.{Report}
-use Rattle.packets.specs.Numbers.{highFirst, unsignedOf}
+use Rattle.numbers.specs.Numbers.{highFirst, unsignedOf}
 use Rattle.packets.specs.Commands.{commandRow}
 
 -- bytes with their CRC behind them, sent high byte first

@@ -11,7 +11,7 @@ use Rattle.packets.specs.declared.Command.{Command}
 use Rattle.packets.specs.declared.Command.the-variants.{Initialise, Status, Update, Write, Read, Priority, Data, Shutdown}
 use Rattle.packets.specs.declared.Parsed.{Parsed}
 use Rattle.packets.specs.declared.Parsed.the-variants.{Nothing, Error, Acknowledgement, Asked}
-use Rattle.packets.specs.Numbers.{numberAt, signedOf}
+use Rattle.numbers.specs.Numbers.{numberAt, signedOf}
 
 -- 0x90 and 0x92 carry from byte 2: mode 1, flags 2, time 4 (upper 22 bits seconds, lower 10 milliseconds), priority limit 2,
 -- priority remaining 2, memory limit 4, memory remaining 4, poll 2

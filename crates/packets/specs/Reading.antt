@@ -8,7 +8,7 @@ use lib.ListN.{length, getD, take}
 use Rattle.crc.specs.Crc.{crcOf}
 use Rattle.packets.specs.declared.Parsed.{Parsed}
 use Rattle.packets.specs.declared.Parsed.the-variants.{Nothing, Error, Acknowledgement, Asked}
-use Rattle.packets.specs.Numbers.{numberAt}
+use Rattle.numbers.specs.Numbers.{numberAt}
 use Rattle.packets.specs.Commands.{codeRow, isCode}
 
 -- the first, the second and the third byte

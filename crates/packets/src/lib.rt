@@ -1,5 +1,4 @@
 // The packet port's paper side: what a packet is read as, and how each answer is written. Nothing of the pod's state is here.
-mod numbers;
 mod reading;
 mod writing;
 

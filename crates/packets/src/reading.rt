@@ -2,9 +2,9 @@
 use crate::Command;
 use crate::Fields;
 use crate::Parsed;
-use crate::numbers::four_at;
-use crate::numbers::signed;
-use crate::numbers::two_at;
+use numbers::four_at;
+use numbers::signed;
+use numbers::two_at;
 ghost use mathlib.Core.Path.{_≡_};
 ghost use mathlib.Core.Bool.{true};
 ghost use Prim.Native.Nat.{_≤_};

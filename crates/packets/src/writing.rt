@@ -1,16 +1,17 @@
 // An answer is written into the room: its first two bytes, the body into the room's part from byte 2 on, and the CRC of all that.
 use crate::Report;
-use crate::numbers::put_four;
-use crate::numbers::put_one;
-use crate::numbers::put_two;
-use crate::numbers::unsigned;
+use numbers::copy;
+use numbers::put_four;
+use numbers::put_one;
+use numbers::put_two;
+use numbers::unsigned;
 ghost use mathlib.Core.Path.{_≡_};
 ghost use mathlib.Core.List.{[], _∷_};
 ghost use Prim.Native.Nat.{_+_, _≤_};
 ghost use lib.ListN.{length, take};
 ghost use lib.Seq.{sets};
 ghost use Rattle.crc.specs.Crc.{crcOf};
-ghost use Rattle.packets.specs.Numbers.{highFirst};
+ghost use Rattle.numbers.specs.Numbers.{highFirst};
 ghost use Rattle.packets.specs.Answers.{Written, answerOf, errorAnswer, doneAnswer, statusBody, statusAnswer, valueBody, valueAnswer, dataAnswer};
 
 // The first and the second byte.
@@ -30,18 +31,6 @@ fn close(room: &mut [u8], end: usize) -> usize
     let crc = crc::crc_of(&room[..end]);
     put_two(room, end, crc);
     end + 2
-}
-
-// All of a block, or of a list of ids, is copied from `at` on.
-fn copy(to: &mut [u8], at: usize, from: &[u8])
-    requires { ⌜ at + length (now from) ≤ length (now to) ⌝ }
-    ensures { λ _. ⌜ now (to .exit) ≡ sets (now (to .entry)) at (now (from .entry)) ⌝ }
-{
-    let mut i = 0;
-    while i < from.len() {
-        to[at + i] = from[i];
-        i += 1;
-    }
 }
 
 fn status_body(body: &mut [u8], report: Report)

@@ -20,7 +20,7 @@ use Rattle.rows.specs.Rows.{Said, refused, ran}
 use Rattle.crc.specs.Crc.{poly, leaving, bitIn, bits, bitsIn, crcFrom, crcOf}
 use Rattle.packets.specs.Answers.{withCrc, answerOf, errorAnswer, statusBody, valueBody, fieldBytes, bodyOf, commandBytes}
 use Rattle.packets.specs.Commands.{fieldsIn, fieldsBounded, findIn, listedIn, codeRow, isCode, commandPlace, commandRow}
-use Rattle.packets.specs.Numbers.{highFirst, numberOf, numberAt, signedOf, unsignedOf}
+use Rattle.numbers.specs.Numbers.{highFirst, numberOf, numberAt, signedOf, unsignedOf}
 use Rattle.packets.specs.Reading.{crcRight, acknowledges, packetRead}
 use Rattle.params.specs.Rules.{isId, inRows, soundParams, startParams, writeAllowed, filter, missingIds, missingOf}
 use Rattle.blocks.specs.Stores.{storeSized, soundRing, placeBehind, blockAt, blocksFrom, blocksIn, oldestOf, putRing, putStore, droppedRing}

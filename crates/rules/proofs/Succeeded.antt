@@ -13,7 +13,7 @@ use Rattle.rows.specs.Rows.{Said, refused, gave, Clear}
 use Rattle.rows.proofs.Laws.{clear-head}
 use borrow.Author.Tests.{ltb-false}
 use Rattle.crc.specs.Crc.{crcOf}
-use Rattle.packets.specs.Numbers.{highFirst}
+use Rattle.numbers.specs.Numbers.{highFirst}
 use Rattle.packets.specs.Answers.{withCrc, answerOf, errorAnswer}
 use Rattle.packets.proofs.Laws.{length-of-answer}
 use Rattle.rules.specs.Refusals.{Given}

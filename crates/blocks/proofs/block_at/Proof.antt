@@ -8,21 +8,6 @@ use Rattle.blocks.specs.Stores.{blockAt}
 use Rattle.blocks.proofs.block_at.Statement.{statement}
 use Rattle.blocks.proofs.block_at.Tie as tie
 
-mul-from : tie.Need-mul-from
-mul-from c = search needs
-
-add-result : tie.Need-add-result
-add-result c = search needs
-
-sub-result : tie.Need-sub-result
-sub-result c = search needs
-
-part-result-start : tie.Need-part-result-start
-part-result-start c = search needs
-
-part-result-end : tie.Need-part-result-end
-part-result-end c = search needs
-
 returns : tie.Need-returns
 unfolding blockAt
 returns c =
@@ -31,4 +16,6 @@ returns c =
 
 pub block-at-spec : {M : Type 1} → statement M
 block-at-spec =
-    tie.close (tie.spec mul-from add-result sub-result part-result-start part-result-end returns)
+    tie.close (tie.spec
+    (λ c. search needs) (λ c. search needs) (λ c. search needs) (λ c. search needs) (λ c. search needs)
+    returns)

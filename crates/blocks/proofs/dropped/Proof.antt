@@ -8,12 +8,9 @@ use Rattle.blocks.proofs.dropped.Tie as tie
 place-requires : tie.Need-place-requires
 place-requires c κs = let b = bounds _ _ (c .pre .0) in (b .0, omega (arith, b .0))
 
-sub-t4 : tie.Need-sub-t4
-sub-t4 c = search needs
-
 returns : tie.Need-returns
 unfolding droppedRing
 returns c = cc
 
 pub dropped-spec : {M : Type 1} → statement M
-dropped-spec = tie.close (tie.spec place-requires sub-t4 returns)
+dropped-spec = tie.close (tie.spec place-requires (λ c. search needs) returns)

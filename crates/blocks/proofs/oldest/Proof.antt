@@ -7,16 +7,10 @@ use Rattle.blocks.proofs.Laws.{oldest-at}
 use Rattle.blocks.proofs.oldest.Statement.{statement}
 use Rattle.blocks.proofs.oldest.Tie as tie
 
-enum-told : tie.Need-enum-told
-enum-told c = search needs
-
 block-at-requires : tie.Need-block-at-requires
 block-at-requires c κs =
     let sure = rw (c .enum-told .given .1) at (c .before .before .before .before .pre .1 .0) in
     omega (arith, bounds 16 _ sure .0)
-
-enum-told-2 : tie.Need-enum-told-2
-enum-told-2 c = search needs
 
 block-at-requires-2 : tie.Need-block-at-requires-2
 block-at-requires-2 c κs =
@@ -31,5 +25,4 @@ returns-2 c = rw (c .before .enum-told2 .given .1) (c .block-at2 .ensures ∙ sy
 
 pub oldest-spec : {M : Type 1} → statement M
 oldest-spec =
-    tie.close
-    (tie.spec enum-told block-at-requires enum-told-2 block-at-requires-2 returns returns-2)
+    tie.close (tie.spec (λ c. search needs) block-at-requires (λ c. search needs) block-at-requires-2 returns returns-2)

@@ -6,12 +6,6 @@ use Rattle.blocks.proofs.Places.{place-on, place-round}
 use Rattle.blocks.proofs.place.Statement.{statement}
 use Rattle.blocks.proofs.place.Tie as tie
 
-sub-ahead : tie.Need-sub-ahead
-sub-ahead c = search needs
-
-add-result : tie.Need-add-result
-add-result c = search needs
-
 returns : tie.Need-returns
 returns c =
     let a = c .before .args in
@@ -23,4 +17,4 @@ returns-2 c =
     omega (arith, place-round (a .capacity) (a .from) (a .k) (omega arith))
 
 pub place-spec : {M : Type 1} → statement M
-place-spec = tie.close (tie.spec sub-ahead add-result returns returns-2)
+place-spec = tie.close (tie.spec (λ c. search needs) (λ c. search needs) returns returns-2)

@@ -16,20 +16,14 @@ placed c =
     subst⁻¹ (λ (i : ℕ). i < start .args .capacity) (c .place .ensures)
     (place-in _ _ (bounds _ _ (start .pre .0 .0) .0) _ (omega arith))
 
-add-more : tie.Need-add-more
-add-more c = search needs
-
 place-requires : tie.Need-place-requires
 place-requires c κs = (bounds _ _ (c .before .before .pre .0 .0) .0, search needs)
 
-mul-copy-in : tie.Need-mul-copy-in
-mul-copy-in c = omega (arith, placed (c .before))
+mul-copy : tie.Need-mul-copy
+mul-copy c = omega (arith, placed (c .before))
 
-copy-in-requires : tie.Need-copy-in-requires
-copy-in-requires c κs = (search needs, omega (arith, placed (c .before)))
-
-same-length : tie.Need-same-length
-same-length c = search needs
+copy-requires : tie.Need-copy-requires
+copy-requires c κs = omega (arith, placed (c .before))
 
 returns : tie.Need-returns
 unfolding putRing putStore
@@ -37,9 +31,9 @@ returns c =
     let after = c .before .before .before .before in
     let a = after .before .before .before .args in (
       refl,
-      c .before .before .copy-in .ensures ∙ ap (λ (i : ℕ). sets (now (a .store)) (i * 256) (now (a .block))) (after .place .ensures),
+      c .before .before .copy .ensures ∙ ap (λ (i : ℕ). sets (now (a .store)) (i * 256) (now (a .block))) (after .place .ensures),
     )
 
 pub put-spec : {M : Type 1} → statement M
 put-spec =
-    tie.close (tie.spec add-more place-requires mul-copy-in copy-in-requires same-length returns)
+    tie.close (tie.spec (λ c. search needs) place-requires mul-copy copy-requires (λ c. search needs) returns)

@@ -13,9 +13,6 @@ few : (s : Store) → capacityOf s ≤ 128
 few Priority = omega arith
 few Ordinary = omega arith
 
-capacity-requires : tie.Need-capacity-requires
-capacity-requires c κs = search needs
-
 mul-result : tie.Need-mul-result
 mul-result c = search (needs, few (c .before .before .args .which))
 
@@ -24,4 +21,4 @@ unfolding storeSized
 returns c = cc
 
 pub sized-spec : {M : Type 1} → statement M
-sized-spec = tie.close (tie.spec capacity-requires mul-result returns)
+sized-spec = tie.close (tie.spec (λ c κs. search needs) mul-result returns)

@@ -11,25 +11,8 @@ Inv-loop first₀ first = first ≤ 0xA1
 abbrev μ-loop : tie.MeasureT-loop
 μ-loop first₀ first = 0xA1 - first
 
-loop-holds : tie.Need-loop-holds Inv-loop μ-loop
-loop-holds c = search needs
-
-seconds-requires : tie.Need-seconds-requires Inv-loop μ-loop
-seconds-requires c κs = search needs
-
-add-first : tie.Need-add-first Inv-loop μ-loop
-add-first c = search needs
-
-loop-less : tie.Need-loop-less Inv-loop μ-loop
-loop-less c = search needs
-
-loop-again : tie.Need-loop-again Inv-loop μ-loop
-loop-again c = search needs
-
-returns : tie.Need-returns Inv-loop μ-loop
-returns c = search needs
-
 pub codes-spec : {M : Type 1} → statement M
 codes-spec =
-    tie.close
-    (tie.spec Inv-loop μ-loop loop-holds seconds-requires add-first loop-less loop-again returns)
+    tie.close (tie.spec
+    Inv-loop μ-loop (λ c. search needs) (λ c κs. search needs) (λ c. search needs) (λ c. search needs)
+    (λ c. search needs) (λ c. search needs))

@@ -32,9 +32,6 @@ four-at-requires : tie.Need-four-at-requires
 unfolding codeRow findIn
 four-at-requires c κs = omega (arith, held (c .before .before .before) 0x93 (c .before .match .keys4))
 
-signed-requires : tie.Need-signed-requires
-signed-requires c κs = search needs
-
 shared-slice-read-t11 : tie.Need-shared-slice-read-t11
 unfolding codeRow findIn
 shared-slice-read-t11 c = omega (arith, held (c .before .before .before) 0x94 (c .before .match .keys5))
@@ -78,19 +75,6 @@ returns-8 c =
 
 pub command-in-spec : {M : Type 1} → statement M
 command-in-spec =
-    tie.close
-    (tie.spec
-    fields-in-requires
-    fields-in-requires-2
-    shared-slice-read-t7
-    four-at-requires
-    signed-requires
-    shared-slice-read-t11
-    returns
-    returns-2
-    returns-3
-    returns-4
-    returns-5
-    returns-6
-    returns-7
-    returns-8)
+    tie.close (tie.spec
+    fields-in-requires fields-in-requires-2 shared-slice-read-t7 four-at-requires (λ c κs. search needs)
+    shared-slice-read-t11 returns returns-2 returns-3 returns-4 returns-5 returns-6 returns-7 returns-8)

@@ -10,29 +10,10 @@ returns : tie.Need-returns
 unfolding acknowledges
 returns c = simp (ne-eqb _ _ (c .if1 .taken))
 
-shared-slice-read-first : tie.Need-shared-slice-read-first
-shared-slice-read-first c = search needs
-
-shared-slice-read-second : tie.Need-shared-slice-read-second
-shared-slice-read-second c = search needs
-
-shared-slice-read-third : tie.Need-shared-slice-read-third
-shared-slice-read-third c = search needs
-
-crc-right-requires : tie.Need-crc-right-requires
-crc-right-requires c κs = search needs
-
 returns-2 : tie.Need-returns-2
 unfolding acknowledges
 returns-2 c = simp (eq-eqb _ _ (c .before .before .before .before .if1 .left)) (cc)
 
 pub is-acknowledgement-spec : {M : Type 1} → statement M
 is-acknowledgement-spec =
-    tie.close
-    (tie.spec
-    returns
-    shared-slice-read-first
-    shared-slice-read-second
-    shared-slice-read-third
-    crc-right-requires
-    returns-2)
+    tie.close (tie.spec returns (λ c. search needs) (λ c. search needs) (λ c. search needs) (λ c κs. search needs) returns-2)

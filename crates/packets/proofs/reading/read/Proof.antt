@@ -41,28 +41,13 @@ code c =
 returns : tie.Need-returns
 returns c = ap parsedSaid (sym (empty (c .before .before .args .packet .now) (c .if1 .taken)))
 
-shared-slice-read-first : tie.Need-shared-slice-read-first
-shared-slice-read-first c = search needs
-
 returns-2 : tie.Need-returns-2
 returns-2 c = ap parsedSaid (sym (short (c .before .before .before .before .args .packet .now) (omega arith) (c .if2 .taken)))
-
-shared-slice-read-second : tie.Need-shared-slice-read-second
-shared-slice-read-second c = search needs
-
-crc-right-requires : tie.Need-crc-right-requires
-crc-right-requires c κs = search needs
-
-length-of-requires : tie.Need-length-of-requires
-length-of-requires c κs = search needs
 
 returns-3 : tie.Need-returns-3
 returns-3 c =
     let called = c .before in
     ap parsedSaid (sym (damaged (packet called) (omega (arith, four called)) (sym (called .before .crc-right .ensures) ∙ not-true _ (c .if3 .taken))))
-
-is-acknowledgement-requires : tie.Need-is-acknowledgement-requires
-is-acknowledgement-requires c κs = search needs
 
 returns-4 : tie.Need-returns-4
 returns-4 c =
@@ -105,19 +90,7 @@ returns-8 c =
 
 pub read-spec : {M : Type 1} → statement M
 read-spec =
-    tie.close
-    (tie.spec
-    returns
-    shared-slice-read-first
-    returns-2
-    shared-slice-read-second
-    crc-right-requires
-    length-of-requires
-    returns-3
-    is-acknowledgement-requires
-    returns-4
-    returns-5
-    returns-6
-    returns-7
-    command-in-requires
-    returns-8)
+    tie.close (tie.spec
+    returns (λ c. search needs) returns-2 (λ c. search needs) (λ c κs. search needs)
+    (λ c κs. search needs) returns-3 (λ c κs. search needs) returns-4 returns-5 returns-6 returns-7
+    command-in-requires returns-8)

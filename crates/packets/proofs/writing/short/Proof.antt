@@ -8,27 +8,6 @@ use borrow.Author.Needs.{needs}
 use Rattle.packets.proofs.writing.short.Statement.{statement}
 use Rattle.packets.proofs.writing.short.Tie as tie
 
-head-requires : tie.Need-head-requires
-head-requires c κs = search needs
-
-sub-put-one : tie.Need-sub-put-one
-sub-put-one c = search needs
-
-part-put-one-start : tie.Need-part-put-one-start
-part-put-one-start c = search needs
-
-part-put-one-end : tie.Need-part-put-one-end
-part-put-one-end c = search needs
-
-put-one-requires : tie.Need-put-one-requires
-put-one-requires c κs = search needs
-
-close-requires : tie.Need-close-requires
-close-requires c κs = search needs
-
-same-length : tie.Need-same-length
-same-length c = search needs
-
 returns : tie.Need-returns
 returns c =
     let closing = c .before .before in
@@ -41,13 +20,6 @@ returns c =
 
 pub short-spec : {M : Type 1} → statement M
 short-spec =
-    tie.close
-    (tie.spec
-    head-requires
-    sub-put-one
-    part-put-one-start
-    part-put-one-end
-    put-one-requires
-    close-requires
-    same-length
-    returns)
+    tie.close (tie.spec
+    (λ c κs. search needs) (λ c. search needs) (λ c. search needs) (λ c. search needs)
+    (λ c κs. search needs) (λ c κs. search needs) (λ c. search needs) returns)

@@ -8,18 +8,6 @@ use borrow.Author.Needs.{needs}
 use Rattle.packets.proofs.writing.value_body.Statement.{statement}
 use Rattle.packets.proofs.writing.value_body.Tie as tie
 
-put-one-requires : tie.Need-put-one-requires
-put-one-requires c κs = search needs
-
-unsigned-requires : tie.Need-unsigned-requires
-unsigned-requires c κs = search needs
-
-put-four-requires : tie.Need-put-four-requires
-put-four-requires c κs = search needs
-
-same-length : tie.Need-same-length
-same-length c = search needs
-
 returns : tie.Need-returns
 unfolding valueBody
 returns c =
@@ -29,4 +17,4 @@ returns c =
 
 pub value-body-spec : {M : Type 1} → statement M
 value-body-spec =
-    tie.close (tie.spec put-one-requires unsigned-requires put-four-requires same-length returns)
+    tie.close (tie.spec (λ c κs. search needs) (λ c κs. search needs) (λ c κs. search needs) (λ c. search needs) returns)

@@ -8,27 +8,6 @@ use borrow.Author.Needs.{needs}
 use Rattle.packets.proofs.writing.write_data.Statement.{statement}
 use Rattle.packets.proofs.writing.write_data.Tie as tie
 
-head-requires : tie.Need-head-requires
-head-requires c κs = search needs
-
-sub-copy : tie.Need-sub-copy
-sub-copy c = search needs
-
-part-copy-start : tie.Need-part-copy-start
-part-copy-start c = search needs
-
-part-copy-end : tie.Need-part-copy-end
-part-copy-end c = search needs
-
-copy-requires : tie.Need-copy-requires
-copy-requires c κs = search needs
-
-close-requires : tie.Need-close-requires
-close-requires c κs = search needs
-
-same-length : tie.Need-same-length
-same-length c = search needs
-
 returns : tie.Need-returns
 unfolding dataAnswer
 returns c =
@@ -42,13 +21,6 @@ returns c =
 
 pub write-data-spec : {M : Type 1} → statement M
 write-data-spec =
-    tie.close
-    (tie.spec
-    head-requires
-    sub-copy
-    part-copy-start
-    part-copy-end
-    copy-requires
-    close-requires
-    same-length
-    returns)
+    tie.close (tie.spec
+    (λ c κs. search needs) (λ c. search needs) (λ c. search needs) (λ c. search needs)
+    (λ c κs. search needs) (λ c κs. search needs) (λ c. search needs) returns)

@@ -14,27 +14,6 @@ use Rattle.packets.proofs.writing.write_status.Tie as tie
 eight : (c : tie.Start) → length (c .args .report .ids) ≡ 8
 eight c = search needs
 
-head-requires : tie.Need-head-requires
-head-requires c κs = search needs
-
-sub-status-body : tie.Need-sub-status-body
-sub-status-body c = search needs
-
-part-status-body-start : tie.Need-part-status-body-start
-part-status-body-start c = search needs
-
-part-status-body-end : tie.Need-part-status-body-end
-part-status-body-end c = search needs
-
-status-body-requires : tie.Need-status-body-requires
-status-body-requires c κs = search needs
-
-close-requires : tie.Need-close-requires
-close-requires c κs = search needs
-
-same-length : tie.Need-same-length
-same-length c = search needs
-
 returns : tie.Need-returns
 unfolding statusAnswer
 returns c =
@@ -48,13 +27,6 @@ returns c =
 
 pub write-status-spec : {M : Type 1} → statement M
 write-status-spec =
-    tie.close
-    (tie.spec
-    head-requires
-    sub-status-body
-    part-status-body-start
-    part-status-body-end
-    status-body-requires
-    close-requires
-    same-length
-    returns)
+    tie.close (tie.spec
+    (λ c κs. search needs) (λ c. search needs) (λ c. search needs) (λ c. search needs)
+    (λ c κs. search needs) (λ c κs. search needs) (λ c. search needs) returns)

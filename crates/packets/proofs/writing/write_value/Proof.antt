@@ -11,27 +11,6 @@ use borrow.Author.Needs.{needs}
 use Rattle.packets.proofs.writing.write_value.Statement.{statement}
 use Rattle.packets.proofs.writing.write_value.Tie as tie
 
-head-requires : tie.Need-head-requires
-head-requires c κs = search needs
-
-sub-value-body : tie.Need-sub-value-body
-sub-value-body c = search needs
-
-part-value-body-start : tie.Need-part-value-body-start
-part-value-body-start c = search needs
-
-part-value-body-end : tie.Need-part-value-body-end
-part-value-body-end c = search needs
-
-value-body-requires : tie.Need-value-body-requires
-value-body-requires c κs = search needs
-
-close-requires : tie.Need-close-requires
-close-requires c κs = search needs
-
-same-length : tie.Need-same-length
-same-length c = search needs
-
 returns : tie.Need-returns
 unfolding valueAnswer
 returns c =
@@ -46,13 +25,6 @@ returns c =
 
 pub write-value-spec : {M : Type 1} → statement M
 write-value-spec =
-    tie.close
-    (tie.spec
-    head-requires
-    sub-value-body
-    part-value-body-start
-    part-value-body-end
-    value-body-requires
-    close-requires
-    same-length
-    returns)
+    tie.close (tie.spec
+    (λ c κs. search needs) (λ c. search needs) (λ c. search needs) (λ c. search needs)
+    (λ c κs. search needs) (λ c κs. search needs) (λ c. search needs) returns)

@@ -1,10 +1,10 @@
-// Numbers in a run of bytes, high byte first, of 16 and 32 bits.
+// Numbers in a run of bytes, high byte first, of 8, 16 and 32 bits; and a run that is copied.
 ghost use mathlib.Core.Path.{_≡_};
 ghost use mathlib.Core.List.{[], _∷_};
 ghost use Prim.Native.Nat.{_+_, _<_, _≤_};
 ghost use lib.ListN.{length};
 ghost use lib.Seq.{sets};
-ghost use Rattle.packets.specs.Numbers.{highFirst, numberAt, signedOf, unsignedOf};
+ghost use Rattle.numbers.specs.Numbers.{highFirst, numberAt, signedOf, unsignedOf};
 
 // A byte, with its bound for the sums that its callers make.
 fn wide(b: u8) -> u16
@@ -75,4 +75,12 @@ pub fn unsigned(v: i32) -> u32
     } else {
         v as u32
     }
+}
+
+// A run of bytes goes to `at`.
+pub fn copy(to: &mut [u8], at: usize, run: &[u8])
+    requires { ⌜ at + length (now run) ≤ length (now to) ⌝ }
+    ensures { λ _. ⌜ now (to .exit) ≡ sets (now (to .entry)) at (now (run .entry)) ⌝ }
+{
+    bytes::copy(run, &mut to[at..]);
 }

@@ -1,4 +1,4 @@
--- `packets::numbers::unsigned` meets its contract: below 0 the sum at 64 bits is the number's two's complement, and from 0 on it is the number.
+-- `numbers::unsigned` meets its contract: below 0 the sum at 64 bits is the number's two's complement, and from 0 on it is the number.
 -- Assumes nothing.
 use mathlib.Core.Path.{_≡_, ap, _∙_}
 use native.Mathlib.Omega.{arith}
@@ -6,10 +6,10 @@ use lib.IntN.{ℤ, pos, _+ℤ_}
 use mir.Syntax.{w32, w64}
 use mir.Val.{toZ, ofZ, SFits}
 use mir.Facts.{toZ-ofZ, sfits-widen}
-use Rattle.packets.specs.Numbers.{unsignedOf}
-use Rattle.packets.proofs.Complement.{more, same, unsigned-below}
-use Rattle.packets.proofs.numbers.unsigned.Statement.{statement}
-use Rattle.packets.proofs.numbers.unsigned.Tie as tie
+use Rattle.numbers.specs.Numbers.{unsignedOf}
+use Rattle.numbers.proofs.Complement.{more, same, unsigned-below}
+use Rattle.numbers.proofs.unsigned.Statement.{statement}
+use Rattle.numbers.proofs.unsigned.Tie as tie
 
 -- what the code reads of v is v
 wide-back : (v : ℤ) → SFits w32 v → toZ w64 (ofZ w64 (toZ w32 (ofZ w32 v))) ≡ v

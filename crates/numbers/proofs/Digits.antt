@@ -10,7 +10,7 @@ use lib.Arith.{mod-mul, digits-div, digits-mod}
 use lib.Pow.{pow-add}
 use lib.ListN.{length, getD, set, take, drop, length-append, length-drop}
 use lib.Seq.{sets, drop-cons, length-take-le, take-add, drop-drop}
-use Rattle.packets.specs.Numbers.{highFirst, numberOf, numberAt}
+use Rattle.numbers.specs.Numbers.{highFirst, numberOf, numberAt}
 
 -- n bytes are as many as they should be
 pub high-first-length : (n x : ℕ) → length (highFirst n x) ≡ n

@@ -1,4 +1,4 @@
--- Numbers on the packet port: high byte first, signed ones in two's complement. n is a count of bytes.
+-- Numbers in bytes: high byte first, signed ones in two's complement. n is a count of bytes.
 -- Assumes nothing.
 use Prim.Native.Nat.{ℕ, zero, suc, _+_, _*_, _/_, _%_, _^_, _-_}
 use mathlib.Core.List.{List, [], _∷_}

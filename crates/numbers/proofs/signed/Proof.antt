@@ -1,4 +1,4 @@
--- `packets::numbers::signed` meets its contract: below 2 ^ 31 the bits are the number, and from there on the difference at 64 bits is.
+-- `numbers::signed` meets its contract: below 2 ^ 31 the bits are the number, and from there on the difference at 64 bits is.
 -- Assumes nothing.
 use Prim.Native.Nat.{suc, _-_}
 use mathlib.Core.Path.{sym, _∙_}
@@ -7,15 +7,9 @@ use native.Mathlib.Omega.{arith}
 use lib.IntN.{negsuc}
 use mir.Syntax.{w32, w64}
 use mir.Facts.{toZ-pos, toZ-ofZ}
-use Rattle.packets.proofs.Complement.{less, low-is, high-is}
-use Rattle.packets.proofs.numbers.signed.Statement.{statement}
-use Rattle.packets.proofs.numbers.signed.Tie as tie
-
-cast-result : tie.Need-cast-result
-cast-result c = search needs
-
-cast-result-2 : tie.Need-cast-result-2
-cast-result-2 c = search needs
+use Rattle.numbers.proofs.Complement.{less, low-is, high-is}
+use Rattle.numbers.proofs.signed.Statement.{statement}
+use Rattle.numbers.proofs.signed.Tie as tie
 
 sub-result : tie.Need-sub-result
 sub-result c = rw (less (c .before .args .u) (search needs)) (record { sfits = omega arith })
@@ -37,4 +31,4 @@ returns-2 c =
 
 pub signed-spec : {M : Type 1} → statement M
 signed-spec =
-    tie.close (tie.spec cast-result cast-result-2 sub-result cast-result-3 returns returns-2)
+    tie.close (tie.spec (λ c. search needs) (λ c. search needs) sub-result cast-result-3 returns returns-2)

@@ -1,6 +1,6 @@
 -- Signed numbers in two's complement: for any count of bytes, and what the code of `signed` and `unsigned` computes by way of 64 bits.
 -- Assumes nothing.
-use Prim.Native.Nat.{ℕ, suc, _+_, _*_, _/_, _^_, _<_, _≤_, _-_}
+use Prim.Native.Nat.{ℕ, suc, _*_, _/_, _^_, _<_, _≤_, _-_}
 use native.Mathlib.Omega.{arith}
 use native.Mathlib.Nat.{pow-succ'}
 use mathlib.Core.Path.{_≡_, refl, ap, _∙_}
@@ -11,7 +11,7 @@ use lib.Signed.{ltZ, mag}
 use mir.Syntax.{w32, w64}
 use mir.Val.{toZ, SFits}
 use mir.Facts.{toZ-pos}
-use Rattle.packets.specs.Numbers.{signedOf, unsignedOf}
+use Rattle.numbers.specs.Numbers.{signedOf, unsignedOf}
 
 -- below half the range the bits are the number, from there on the number is the whole range less
 pub low-is : (n u : ℕ) → u < 256 ^ n / 2 → signedOf n u ≡ pos u
