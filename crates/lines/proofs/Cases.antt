@@ -11,13 +11,13 @@ use lib.Dec.{ltb, eqb}
 use borrow.Author.Tests.{ne-eqb, lt-ltb, le-ltb}
 use Rattle.blocks.specs.declared.Store.{Store}
 use Rattle.blocks.specs.declared.Store.the-variants.{Priority, Ordinary}
-use Rattle.lines.specs.declared.Items.{Items}
-use Rattle.lines.specs.declared.Items.the-variants.{Good, Bad}
+use Rattle.items.specs.declared.Items.{Items}
+use Rattle.items.specs.declared.Items.the-variants.{Good, Bad}
 use Rattle.lines.specs.declared.Line.{Line}
 use Rattle.lines.specs.declared.Line.the-variants.{Packet, Put, Samples, Other}
-use Rattle.lines.specs.Text.{Reading, reading, bytesIn, wordsIn, itemsOf}
+use Rattle.items.specs.Text.{Reading, reading, bytesIn, wordsIn, itemsOf}
 use Rattle.lines.specs.Asked.{Asked, packet, put, samples, other, Told, told, wholly, oneByte, packetIn, isPut, putting, putIn, sampling, samplesIn, bareOf, shortOf, lineOf, sayLine, counted}
-use Rattle.lines.proofs.Choice.{split}
+use Rattle.rows.proofs.Bool.{split}
 
 -- a text without characters
 pub empty : (t : List ℕ) → length t ≡ 0 → t ≡ []

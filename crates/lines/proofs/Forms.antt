@@ -10,10 +10,10 @@ use borrow.Author.Tests.{lt-ltb, eqb-true}
 use Rattle.hex.specs.Digits.{byteDigits, wordDigits}
 use Rattle.blocks.specs.declared.Store.{Store}
 use Rattle.blocks.specs.declared.Store.the-variants.{Priority, Ordinary}
-use Rattle.lines.specs.Text.{spell, spellWords, bytesIn}
+use Rattle.items.specs.Text.{spell, spellWords, bytesIn}
 use Rattle.lines.specs.Asked.{packet, deadline, put, command, dataIn, dataOut, status, samples, pipeByte, pipeTimeout, power, told, oneByte, oneWord, packetIn, putIn, samplesIn, bareOf, wordOf, byteOf, shortOf, lineOf}
-use Rattle.lines.proofs.Choice.{split}
-use Rattle.lines.proofs.Laws.{Under, byte-back, word-back, bytes-back, words-back, bytes-only}
+use Rattle.rows.proofs.Bool.{split}
+use Rattle.items.proofs.Laws.{Under, byte-back, word-back, bytes-back, words-back, bytes-only}
 
 -- `P` and bytes
 pub packet-form : (bs : List ℕ) → Under 256 bs → lineOf (80 ∷ spell bs) ≡ told (packet bs) bs []

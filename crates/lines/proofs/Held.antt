@@ -13,7 +13,7 @@ use Rattle.lines.specs.declared.Cursor.{Cursor}
 use Rattle.lines.specs.declared.Found.{Found}
 use Rattle.lines.specs.declared.Found.the-variants.{Here, More}
 use Rattle.lines.specs.Cut.{before, heldOf, keptOf, lastOf, endOf, cutAt, cutOf, heldLine}
-use Rattle.lines.proofs.Choice.{split}
+use Rattle.rows.proofs.Bool.{split}
 
 -- too long
 pub too-long : (line : List ℕ) (held : ℕ) (part : List ℕ) → 196606 < held + length part

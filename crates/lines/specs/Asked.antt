@@ -7,11 +7,11 @@ use lib.Dec.{ltb, eqb}
 use lib.ListN.{length, take, drop, getD}
 use Rattle.blocks.specs.declared.Store.{Store}
 use Rattle.blocks.specs.declared.Store.the-variants.{Priority, Ordinary}
-use Rattle.lines.specs.declared.Items.{Items}
-use Rattle.lines.specs.declared.Items.the-variants.{Good, Bad}
+use Rattle.items.specs.declared.Items.{Items}
+use Rattle.items.specs.declared.Items.the-variants.{Good, Bad}
 use Rattle.lines.specs.declared.Line.{Line}
 use Rattle.lines.specs.declared.Line.the-variants.{Packet, Deadline, Put, Command, Data, Read, Status, Samples, Byte, Timeout, Power, Other}
-use Rattle.lines.specs.Text.{Reading, reading, bytesIn, wordsIn, byteItem, wordItem}
+use Rattle.items.specs.Text.{Reading, reading, bytesIn, wordsIn, byteItem, wordItem}
 
 -- a call with what it is given, a case for each line of the table; and every other line
 pub data Asked : Type 0 where

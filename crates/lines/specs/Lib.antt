@@ -1,4 +1,2 @@
-pub mod Text
 pub mod Asked
-pub mod Printed
 pub mod Cut

@@ -1,16 +1,16 @@
 // What a line asks.
-use crate::Items;
 use crate::Line;
-use crate::reading::byte_item;
-use crate::reading::bytes_in;
-use crate::reading::word_item;
-use crate::reading::words_in;
 use blocks::Store;
+use items::Items;
+use items::byte_item;
+use items::bytes_in;
+use items::word_item;
+use items::words_in;
 ghost use mathlib.Core.Path.{_≡_};
 ghost use Prim.Native.Nat.{_*_, _≤_};
 ghost use lib.ListN.{length};
 ghost use lib.Seq.{sets};
-ghost use Rattle.lines.specs.Text.{itemsOf};
+ghost use Rattle.items.specs.Text.{itemsOf};
 ghost use Rattle.lines.specs.Asked.{oneByte, oneWord, packetIn, putIn, samplesIn, bareOf, wordOf, byteOf, shortOf, lineOf, sayLine, counted};
 
 // Exactly one byte; 256 where the text is none.

@@ -4,7 +4,7 @@ use mathlib.Core.Path.{_≡_, ap, _∙_, sym}
 use mathlib.Core.List.{[]}
 use lib.ListN.{length, getD}
 use denote.Ref.{now}
-use Rattle.lines.specs.Text.{itemsOf, bytesIn}
+use Rattle.items.specs.Text.{itemsOf, bytesIn}
 use Rattle.lines.proofs.Cases.{empty, the-rest, packet-yes, packet-no, no-packet}
 use borrow.Author.Needs.{needs}
 use Rattle.lines.proofs.asking.packet_line.Statement.{statement}

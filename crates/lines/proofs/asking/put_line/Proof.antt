@@ -3,7 +3,7 @@ use native.Mathlib.Omega.{arith}
 use denote.Ref.{now}
 use lib.ListN.{drop}
 use Rattle.blocks.specs.declared.Store.the-variants.{Priority, Ordinary}
-use Rattle.lines.specs.Text.{bytesIn}
+use Rattle.items.specs.Text.{bytesIn}
 use Rattle.lines.proofs.Cases.{the-rest, put-none, put-short, put-far, put-priority, put-ordinary, no-put, put-is}
 use borrow.Author.Needs.{needs}
 use Rattle.lines.proofs.asking.put_line.Statement.{statement}

@@ -4,7 +4,7 @@ use Prim.Native.Nat.{ℕ, _<_}
 use mathlib.Core.Path.{sym, ap, _∙_}
 use denote.Ref.{now}
 use lib.ListN.{take, drop}
-use Rattle.lines.specs.Text.{wordsIn}
+use Rattle.items.specs.Text.{wordsIn}
 use Rattle.lines.specs.Asked.{oneByte, sampling}
 use Rattle.lines.proofs.Cases.{the-rest, samples-yes, samples-no, samples-short, no-samples, samples-is}
 use borrow.Author.Needs.{needs}

@@ -10,7 +10,7 @@ use denote.Ref.{now}
 use borrow.Author.Tests.{leb-true}
 use Rattle.lines.specs.Cut.{before}
 use Rattle.lines.proofs.Before.{past, none-left}
-use Rattle.lines.proofs.Choice.{and-left, and-right}
+use Rattle.rows.proofs.Bool.{and-left, and-right}
 use Rattle.lines.proofs.cutting.plain.Statement.{statement}
 use Rattle.lines.proofs.cutting.plain.Tie as tie
 

@@ -1,0 +1,27 @@
+-- The lines that are printed: a letter, what it answers, and the newline (10).
+-- Assumes nothing.
+use mathlib.Core.List.{List, [], _∷_, _++_}
+use Prim.Native.Nat.{ℕ, _+_}
+use Rattle.hex.specs.Digits.{wordDigits}
+use Rattle.items.specs.Text.{spell}
+
+-- "the answer in the same form, `P -` for an answer of length 0"
+unfoldable pub answered : List ℕ → List ℕ
+answered [] = 32 ∷ 45 ∷ []
+answered (b ∷ bs) = spell (b ∷ bs)
+
+-- a letter and bytes
+unfoldable pub bytesLine : ℕ → List ℕ → List ℕ
+bytesLine c bs = c ∷ (answered bs ++ (10 ∷ []))
+
+-- a letter and a word
+unfoldable pub wordLine : ℕ → ℕ → List ℕ
+wordLine c w = c ∷ 32 ∷ (wordDigits w ++ (10 ∷ []))
+
+-- a letter alone; `?` is printed so too
+unfoldable pub bareLine : ℕ → List ℕ
+bareLine c = c ∷ 10 ∷ []
+
+-- "a refused call prints the letter, a space, `!` and the number": the digit of a number below 10
+unfoldable pub refusedLine : ℕ → ℕ → List ℕ
+refusedLine c n = c ∷ 32 ∷ 33 ∷ (48 + n) ∷ 10 ∷ []
