@@ -1,7 +1,9 @@
 -- The lines that are printed: a letter, what it answers, and the newline (10).
 -- Assumes nothing.
 use mathlib.Core.List.{List, [], _∷_, _++_}
-use Prim.Native.Nat.{ℕ, _+_}
+use Prim.Native.Nat.{ℕ, _+_, _/_, _%_}
+use mathlib.Core.Bool.{cond}
+use lib.Dec.{ltb}
 use Rattle.hex.specs.Digits.{wordDigits}
 use Rattle.items.specs.Text.{spell}
 
@@ -22,6 +24,10 @@ wordLine c w = c ∷ 32 ∷ (wordDigits w ++ (10 ∷ []))
 unfoldable pub bareLine : ℕ → List ℕ
 bareLine c = c ∷ 10 ∷ []
 
--- "a refused call prints the letter, a space, `!` and the number": the digit of a number below 10
+-- a number below 100 in decimal: one digit below 10, else two
+unfoldable pub decimal : ℕ → List ℕ
+decimal n = cond (ltb n 10) ((48 + n) ∷ []) ((48 + n / 10) ∷ (48 + n % 10) ∷ [])
+
+-- "a refused call prints the letter, a space, `!` and the number"
 unfoldable pub refusedLine : ℕ → ℕ → List ℕ
-refusedLine c n = c ∷ 32 ∷ 33 ∷ (48 + n) ∷ 10 ∷ []
+refusedLine c n = c ∷ 32 ∷ 33 ∷ (decimal n ++ (10 ∷ []))

@@ -17,7 +17,7 @@ fn put_items(out: &mut [u8], at: usize, bytes: &[u8]) -> usize
     let mut i = 0;
     while i < bytes.len() {
         let digits = hex::byte(bytes[i]);
-        let item = [32, digits[0], digits[1]];
+        let item = [b' ', digits[0], digits[1]];
         to = append(out, to, &item);
         i += 1;
     }
@@ -32,11 +32,11 @@ pub fn bytes_line(out: &mut [u8], at: usize, letter: u8, bytes: &[u8]) -> usize
     ensures { λ r. ⌜ r ≤ at + 3 * length (now (bytes .entry)) + 4 ⌝ }
 {
     if bytes.len() == 0 {
-        return append(out, at, &[letter, 32, 45, 10]);
+        return append(out, at, &[letter, b' ', b'-', b'\n']);
     }
     let first = append(out, at, &[letter]);
     let last = put_items(out, first, bytes);
-    append(out, last, &[10])
+    append(out, last, &[b'\n'])
 }
 
 // A letter and a word.
@@ -49,7 +49,9 @@ pub fn word_line(out: &mut [u8], at: usize, letter: u8, word: u16) -> usize
     append(
         out,
         at,
-        &[letter, 32, digits[0], digits[1], digits[2], digits[3], 10],
+        &[
+            letter, b' ', digits[0], digits[1], digits[2], digits[3], b'\n',
+        ],
     )
 }
 
@@ -59,14 +61,29 @@ pub fn bare_line(out: &mut [u8], at: usize, letter: u8) -> usize
     ensures { λ r. ⌜ r ≡ at + 2 ⌝ }
     ensures { λ _. ⌜ now (out .exit) ≡ sets (now (out .entry)) at (bareLine letter) ⌝ }
 {
-    append(out, at, &[letter, 10])
+    append(out, at, &[letter, b'\n'])
 }
 
 // A letter and the number of a refusal.
 pub fn refused_line(out: &mut [u8], at: usize, letter: u8, number: u8) -> usize
-    requires { ⌜ (at + 5 ≤ length (now out)) × (number < 10) ⌝ }
-    ensures { λ r. ⌜ r ≡ at + 5 ⌝ }
+    requires { ⌜ (at + 6 ≤ length (now out)) × (number < 100) ⌝ }
+    ensures { λ r. ⌜ r ≡ at + length (refusedLine letter number) ⌝ }
     ensures { λ _. ⌜ now (out .exit) ≡ sets (now (out .entry)) at (refusedLine letter number) ⌝ }
+    ensures { λ r. ⌜ r ≤ at + 6 ⌝ }
 {
-    append(out, at, &[letter, 32, 33, 48 + number, 10])
+    if number < 10 {
+        return append(out, at, &[letter, b' ', b'!', b'0' + number, b'\n']);
+    }
+    append(
+        out,
+        at,
+        &[
+            letter,
+            b' ',
+            b'!',
+            b'0' + number / 10,
+            b'0' + number % 10,
+            b'\n',
+        ],
+    )
 }

@@ -16,7 +16,7 @@ use Rattle.items.specs.declared.Items.the-variants.{Good, Bad}
 use Rattle.lines.specs.declared.Line.{Line}
 use Rattle.lines.specs.declared.Line.the-variants.{Packet, Put, Samples, Other}
 use Rattle.items.specs.Text.{Reading, reading, bytesIn, wordsIn, itemsOf}
-use Rattle.lines.specs.Asked.{Asked, packet, put, samples, other, Told, told, wholly, oneByte, packetIn, isPut, putting, putIn, sampling, samplesIn, bareOf, shortOf, lineOf, sayLine, counted}
+use Rattle.lines.specs.Asked.{Asked, packet, put, samples, other, Asking, asking, wholly, oneByte, packetIn, isPut, putting, putIn, sampling, samplesIn, bareAsked, shortAsked, lineOf, sayLine, counted}
 use Rattle.rows.proofs.Bool.{split}
 
 -- a text without characters
@@ -60,17 +60,17 @@ unfolding itemsOf
 no-packet t l e = rw e (refl, refl)
 
 -- `B`
-pub put-none : (t : List ℕ) → (getD t 2 0 ≡ 112 → ⊥) → (getD t 2 0 ≡ 111 → ⊥) → putIn t ≡ told other [] []
+pub put-none : (t : List ℕ) → (getD t 2 0 ≡ 112 → ⊥) → (getD t 2 0 ≡ 111 → ⊥) → putIn t ≡ asking other [] []
 unfolding putIn
 put-none t p o =
     rw (ne-eqb (getD t 2 0) 112 p, ne-eqb (getD t 2 0) 111 o, and-false (eqb (getD t 1 0) 32))
 
-pub put-short : (t : List ℕ) → length t < 3 → putIn t ≡ told other [] []
+pub put-short : (t : List ℕ) → length t < 3 → putIn t ≡ asking other [] []
 put-short t h =
     let z : getD t 2 0 ≡ 0 = List·getD-eq-default t 0 {n = 2} (omega arith) in
     put-none t (λ e. omega arith) (λ e. omega arith)
 
-pub put-far : (t : List ℕ) → (getD t 1 0 ≡ 32 → ⊥) → putIn t ≡ told other [] []
+pub put-far : (t : List ℕ) → (getD t 1 0 ≡ 32 → ⊥) → putIn t ≡ asking other [] []
 unfolding putIn
 put-far t n = rw (ne-eqb (getD t 1 0) 32 n)
 
@@ -82,7 +82,7 @@ pub put-ordinary : (t : List ℕ) → getD t 1 0 ≡ 32 → getD t 2 0 ≡ 111 �
 unfolding putIn
 put-ordinary t s e = rw (s, e)
 
-pub no-put : (t l : List ℕ) → putIn t ≡ told other [] [] → (Other ≡ sayLine (putIn t .asked)) × (l ≡ sets l 0 (putIn t .bytes))
+pub no-put : (t l : List ℕ) → putIn t ≡ asking other [] [] → (Other ≡ sayLine (putIn t .asked)) × (l ≡ sets l 0 (putIn t .bytes))
 unfolding sayLine
 no-put t l e = rw e (refl, refl)
 
@@ -98,7 +98,7 @@ pub samples-yes : (t : List ℕ) → oneByte (take 3 (drop 1 t)) < 256
 unfolding samplesIn
 samples-yes t h = rw (lt-ltb (oneByte (take 3 (drop 1 t))) 256 h)
 
-pub samples-no : (t : List ℕ) → 255 < oneByte (take 3 (drop 1 t)) → samplesIn t ≡ told other [] []
+pub samples-no : (t : List ℕ) → 255 < oneByte (take 3 (drop 1 t)) → samplesIn t ≡ asking other [] []
 unfolding samplesIn
 samples-no t h = rw (le-ltb (oneByte (take 3 (drop 1 t))) 256 (omega arith))
 
@@ -106,12 +106,12 @@ not-three : (t : List ℕ) → (length t ≡ 3 → ⊥) → oneByte t ≡ 256
 unfolding oneByte
 not-three t n = rw (ne-eqb (length t) 3 n)
 
-pub samples-short : (t : List ℕ) → length t < 4 → samplesIn t ≡ told other [] []
+pub samples-short : (t : List ℕ) → length t < 4 → samplesIn t ≡ asking other [] []
 samples-short t h =
     let z : oneByte (take 3 (drop 1 t)) ≡ 256 = not-three (take 3 (drop 1 t)) (λ e. omega (arith, length-take 3 (drop 1 t), length-drop 1 t)) in
     samples-no t (omega arith)
 
-pub no-samples : (t l : List ℕ) → samplesIn t ≡ told other [] [] → (Other ≡ sayLine (samplesIn t .asked)) × (l ≡ sets l 0 (samplesIn t .words))
+pub no-samples : (t l : List ℕ) → samplesIn t ≡ asking other [] [] → (Other ≡ sayLine (samplesIn t .asked)) × (l ≡ sets l 0 (samplesIn t .words))
 unfolding sayLine
 no-samples t l e = rw e (refl, refl)
 
@@ -127,7 +127,7 @@ Read t x l k m n = (x ≡ sayLine (lineOf t .asked)) × ((k ≡ sets l 0 (lineOf
 
 -- the table, by the letter
 pub line-empty : (t l m : List ℕ) → length t ≡ 0 → Read t Other l l m m
-unfolding lineOf shortOf bareOf sayLine
+unfolding lineOf shortAsked bareAsked sayLine
 line-empty t l m h = rw (empty t h) (refl, (refl, refl))
 
 pub line-packet : (t l k m : List ℕ) (i : Items) (x : Line) → getD t 0 0 ≡ 80 → i ≡ itemsOf (packetIn t)
@@ -153,6 +153,6 @@ unfolding lineOf
 line-samples t l m n x e ex en = rw e (ex, (ap (sets l 0) (sym (samples-bytes t)), en))
 
 pub line-short : (t l m : List ℕ) (x : Line) → (getD t 0 0 ≡ 80 → ⊥) → (getD t 0 0 ≡ 66 → ⊥) → (getD t 0 0 ≡ 65 → ⊥)
-    → x ≡ sayLine (shortOf (getD t 0 0) (drop 1 t)) → Read t x l l m m
+    → x ≡ sayLine (shortAsked (getD t 0 0) (drop 1 t)) → Read t x l l m m
 unfolding lineOf
 line-short t l m x p b a ex = rw (ne-eqb (getD t 0 0) 80 p, ne-eqb (getD t 0 0) 66 b, ne-eqb (getD t 0 0) 65 a) (ex, (refl, refl))

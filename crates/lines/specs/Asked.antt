@@ -1,4 +1,4 @@
--- What a line of the console asks. The letters: P 80, D 68, B 66, C 67, W 87, R 82, S 83, A 65, I 73, T 84, Z 90; p 112, o 111.
+-- What a line of the console asks.
 -- Assumes nothing.
 use mathlib.Core.Bool.{Bool, false, _&&_, _||_, cond}
 use mathlib.Core.List.{List, [], _∷_}
@@ -12,6 +12,52 @@ use Rattle.items.specs.declared.Items.the-variants.{Good, Bad}
 use Rattle.lines.specs.declared.Line.{Line}
 use Rattle.lines.specs.declared.Line.the-variants.{Packet, Deadline, Put, Command, Data, Read, Status, Samples, Byte, Timeout, Power, Other}
 use Rattle.items.specs.Text.{Reading, reading, bytesIn, wordsIn, byteItem, wordItem}
+
+-- ---- the letters, as the programs read and print them
+
+abbrev pub letterP : ℕ
+letterP = 80
+
+abbrev pub letterD : ℕ
+letterD = 68
+
+abbrev pub letterB : ℕ
+letterB = 66
+
+abbrev pub letterC : ℕ
+letterC = 67
+
+abbrev pub letterW : ℕ
+letterW = 87
+
+abbrev pub letterR : ℕ
+letterR = 82
+
+abbrev pub letterS : ℕ
+letterS = 83
+
+abbrev pub letterA : ℕ
+letterA = 65
+
+abbrev pub letterI : ℕ
+letterI = 73
+
+abbrev pub letterT : ℕ
+letterT = 84
+
+abbrev pub letterZ : ℕ
+letterZ = 90
+
+abbrev pub smallP : ℕ
+smallP = 112
+
+abbrev pub smallO : ℕ
+smallO = 111
+
+abbrev pub space : ℕ
+space = 32
+
+-- ---- what a line asks
 
 -- a call with what it is given, a case for each line of the table; and every other line
 pub data Asked : Type 0 where
@@ -29,13 +75,13 @@ pub data Asked : Type 0 where
   other : Asked
 
 -- what the line asks, and the bytes and the words that are read of it
-pub record Told : Type 0 where
+pub record Asking : Type 0 where
   pub asked : Asked
   pub bytes : List ℕ
   pub words : List ℕ
 
-abbrev pub told : Asked → List ℕ → List ℕ → Told
-told a bs ws = record { asked = a; bytes = bs; words = ws }
+abbrev pub asking : Asked → List ℕ → List ℕ → Asking
+asking a bs ws = record { asked = a; bytes = bs; words = ws }
 
 -- a run of items that has to be whole
 abbrev pub wholly : Reading → (List ℕ → Asked) → Asked
@@ -50,62 +96,62 @@ oneWord t = cond (eqb (length t) 5) (wordItem (getD t 0 0) (getD t 1 0) (getD t 
 
 -- `P` bytes: what stands behind the letter is bytes. A line of any other letter is none
 unfoldable pub packetIn : List ℕ → Reading
-packetIn t = cond (eqb (getD t 0 0) 80) (bytesIn (drop 1 t)) (reading [] false)
+packetIn t = cond (eqb (getD t 0 0) letterP) (bytesIn (drop 1 t)) (reading [] false)
 
 -- `B p` bytes, `B o` bytes
 abbrev pub isPut : ℕ → List ℕ → Bool
-isPut c t = eqb (getD t 1 0) 32 && eqb (getD t 2 0) c
+isPut c t = eqb (getD t 1 0) space && eqb (getD t 2 0) c
 
-abbrev pub putting : Store → Reading → Told
-putting s r = told (wholly r (put s)) (r .values) []
+abbrev pub putting : Store → Reading → Asking
+putting s r = asking (wholly r (put s)) (r .values) []
 
-unfoldable pub putIn : List ℕ → Told
+unfoldable pub putIn : List ℕ → Asking
 putIn t =
-    cond (isPut 112 t) (putting Priority (bytesIn (drop 3 t)))
-    (cond (isPut 111 t) (putting Ordinary (bytesIn (drop 3 t)))
-    (told other [] []))
+    cond (isPut smallP t) (putting Priority (bytesIn (drop 3 t)))
+    (cond (isPut smallO t) (putting Ordinary (bytesIn (drop 3 t)))
+    (asking other [] []))
 
 -- `A` byte words
-abbrev pub sampling : ℕ → Reading → Told
-sampling check r = told (wholly r (samples check)) [] (r .values)
+abbrev pub sampling : ℕ → Reading → Asking
+sampling check r = asking (wholly r (samples check)) [] (r .values)
 
-unfoldable pub samplesIn : List ℕ → Told
+unfoldable pub samplesIn : List ℕ → Asking
 samplesIn t =
     cond (ltb (oneByte (take 3 (drop 1 t))) 256) (sampling (oneByte (take 3 (drop 1 t))) (wordsIn (drop 4 t)))
-    (told other [] [])
+    (asking other [] [])
 
 -- the letters with nothing behind them: `D`, `R`, `S`, `T`, `Z`
-unfoldable pub bareOf : ℕ → Asked
-bareOf c =
-    cond (eqb c 68) deadline
-    (cond (eqb c 82) dataOut
-    (cond (eqb c 83) status
-    (cond (eqb c 84) pipeTimeout
-    (cond (eqb c 90) power
+unfoldable pub bareAsked : ℕ → Asked
+bareAsked c =
+    cond (eqb c letterD) deadline
+    (cond (eqb c letterR) dataOut
+    (cond (eqb c letterS) status
+    (cond (eqb c letterT) pipeTimeout
+    (cond (eqb c letterZ) power
     other))))
 
 -- `C` word, `W` word
-unfoldable pub wordOf : ℕ → ℕ → Asked
-wordOf c w = cond (ltb w 65536) (cond (eqb c 67) (command w) (dataIn w)) other
+unfoldable pub wordAsked : ℕ → ℕ → Asked
+wordAsked c w = cond (ltb w 65536) (cond (eqb c letterC) (command w) (dataIn w)) other
 
 -- `I` byte
-unfoldable pub byteOf : ℕ → Asked
-byteOf b = cond (ltb b 256) (pipeByte b) other
+unfoldable pub byteAsked : ℕ → Asked
+byteAsked b = cond (ltb b 256) (pipeByte b) other
 
 -- the letters with one item behind them, and the bare letters
-unfoldable pub shortOf : ℕ → List ℕ → Asked
-shortOf c t =
-    cond (eqb c 67 || eqb c 87) (wordOf c (oneWord t))
-    (cond (eqb c 73) (byteOf (oneByte t))
-    (cond (eqb (length t) 0) (bareOf c) other))
+unfoldable pub shortAsked : ℕ → List ℕ → Asked
+shortAsked c t =
+    cond (eqb c letterC || eqb c letterW) (wordAsked c (oneWord t))
+    (cond (eqb c letterI) (byteAsked (oneByte t))
+    (cond (eqb (length t) 0) (bareAsked c) other))
 
 -- "A line is a letter and items after one space each": the table, by the letter
-unfoldable pub lineOf : List ℕ → Told
+unfoldable pub lineOf : List ℕ → Asking
 lineOf t =
-    cond (eqb (getD t 0 0) 80) (told (wholly (packetIn t) packet) (packetIn t .values) [])
-    (cond (eqb (getD t 0 0) 66) (putIn t)
-    (cond (eqb (getD t 0 0) 65) (samplesIn t)
-    (told (shortOf (getD t 0 0) (drop 1 t)) [] [])))
+    cond (eqb (getD t 0 0) letterP) (asking (wholly (packetIn t) packet) (packetIn t .values) [])
+    (cond (eqb (getD t 0 0) letterB) (putIn t)
+    (cond (eqb (getD t 0 0) letterA) (samplesIn t)
+    (asking (shortAsked (getD t 0 0) (drop 1 t)) [] [])))
 
 -- how the code says it: a run of bytes or words by its count, since the values lie in lent memory
 unfoldable pub sayLine : Asked → Line

@@ -16,7 +16,8 @@ unfoldable pub before : List ℕ → ℕ
 before [] = 0
 before (c ∷ cs) = cond (eqb c 10) 0 (suc (before cs))
 
--- "A packet may have up to 65,535 bytes": `P` and three characters for each
+-- a limit of these programs and not of the pod: the longest line is `P` and 65,535 bytes of three characters each; a longer one, so a
+-- packet of 65,536 bytes and more, prints `?`
 abbrev pub longest : ℕ
 longest = 196606
 

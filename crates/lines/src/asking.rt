@@ -11,7 +11,7 @@ ghost use Prim.Native.Nat.{_*_, _≤_};
 ghost use lib.ListN.{length};
 ghost use lib.Seq.{sets};
 ghost use Rattle.items.specs.Text.{itemsOf};
-ghost use Rattle.lines.specs.Asked.{oneByte, oneWord, packetIn, putIn, samplesIn, bareOf, wordOf, byteOf, shortOf, lineOf, sayLine, counted};
+ghost use Rattle.lines.specs.Asked.{oneByte, oneWord, packetIn, putIn, samplesIn, bareAsked, wordAsked, byteAsked, shortAsked, lineOf, sayLine, counted};
 
 // Exactly one byte; 256 where the text is none.
 fn one_byte(text: &[u8]) -> u16
@@ -44,7 +44,7 @@ pub fn packet_line(line: &[u8], bytes: &mut [u8]) -> Items
     if line.len() == 0 {
         return Items::Bad;
     }
-    if line[0] != 80 {
+    if line[0] != b'P' {
         return Items::Bad;
     }
     bytes_in(&line[1..], bytes)
@@ -59,13 +59,13 @@ fn put_line(line: &[u8], bytes: &mut [u8]) -> Line
     if line.len() < 3 {
         return Line::Other;
     }
-    if line[1] != 32 {
+    if line[1] != b' ' {
         return Line::Other;
     }
-    if line[2] == 112 {
+    if line[2] == b'p' {
         return put_of(Store::Priority, bytes_in(&line[3..], bytes));
     }
-    if line[2] == 111 {
+    if line[2] == b'o' {
         return put_of(Store::Ordinary, bytes_in(&line[3..], bytes));
     }
     Line::Other
@@ -116,21 +116,21 @@ fn packet_of(items: Items) -> Line
 
 // A letter with nothing behind it.
 fn bare(letter: u8) -> Line
-    ensures { λ r. ⌜ r ≡ sayLine (bareOf letter) ⌝ }
+    ensures { λ r. ⌜ r ≡ sayLine (bareAsked letter) ⌝ }
 {
-    if letter == 68 {
+    if letter == b'D' {
         return Line::Deadline;
     }
-    if letter == 82 {
+    if letter == b'R' {
         return Line::Read;
     }
-    if letter == 83 {
+    if letter == b'S' {
         return Line::Status;
     }
-    if letter == 84 {
+    if letter == b'T' {
         return Line::Timeout;
     }
-    if letter == 90 {
+    if letter == b'Z' {
         return Line::Power;
     }
     Line::Other
@@ -138,12 +138,12 @@ fn bare(letter: u8) -> Line
 
 // A letter and one item, or nothing.
 fn short(letter: u8, text: &[u8]) -> Line
-    ensures { λ r. ⌜ r ≡ sayLine (shortOf letter (now (text .entry))) ⌝ }
+    ensures { λ r. ⌜ r ≡ sayLine (shortAsked letter (now (text .entry))) ⌝ }
 {
-    if (letter == 67) | (letter == 87) {
+    if (letter == b'C') | (letter == b'W') {
         return word_of(letter, one_word(text));
     }
-    if letter == 73 {
+    if letter == b'I' {
         return byte_of(one_byte(text));
     }
     if text.len() == 0 {
@@ -155,12 +155,12 @@ fn short(letter: u8, text: &[u8]) -> Line
 
 // A `C` or a `W` with its word.
 fn word_of(letter: u8, word: u32) -> Line
-    ensures { λ r. ⌜ r ≡ sayLine (wordOf letter word) ⌝ }
+    ensures { λ r. ⌜ r ≡ sayLine (wordAsked letter word) ⌝ }
 {
     if word > 65535 {
         return Line::Other;
     }
-    if letter == 67 {
+    if letter == b'C' {
         Line::Command(word as u16)
     } else {
         Line::Data(word as u16)
@@ -169,7 +169,7 @@ fn word_of(letter: u8, word: u32) -> Line
 
 // An `I` with its byte.
 fn byte_of(byte: u16) -> Line
-    ensures { λ r. ⌜ r ≡ sayLine (byteOf byte) ⌝ }
+    ensures { λ r. ⌜ r ≡ sayLine (byteAsked byte) ⌝ }
 {
     if byte > 255 {
         Line::Other
@@ -189,13 +189,13 @@ pub fn read_line(line: &[u8], bytes: &mut [u8], words: &mut [u16]) -> Line
         return Line::Other;
     }
     let letter = line[0];
-    if letter == 80 {
+    if letter == b'P' {
         return packet_of(packet_line(line, bytes));
     }
-    if letter == 66 {
+    if letter == b'B' {
         return put_line(line, bytes);
     }
-    if letter == 65 {
+    if letter == b'A' {
         return samples_line(line, words);
     }
     short(letter, &line[1..])

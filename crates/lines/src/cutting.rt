@@ -20,7 +20,7 @@ fn plain(part: &[u8]) -> bool
 {
     let mut all = true;
     for k in 0..16usize {
-        all = all & (part[k] >= 32);
+        all = all & (part[k] >= b' ');
     }
     all
 }
@@ -49,7 +49,7 @@ pub fn line_end(text: &[u8], from: usize) -> usize
 {
     let mut i = past_plain(text, from);
     while i < text.len() {
-        if text[i] == 10 {
+        if text[i] == b'\n' {
             return i;
         }
         i += 1;
