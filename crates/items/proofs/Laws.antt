@@ -1,14 +1,14 @@
 -- Reading what was written gives it back, and nothing else is read.
 -- Assumes nothing.
-use Prim.Native.Nat.{ℕ, _+_, _-_, _*_, _/_, _%_, _≤_, _<_}
+use Prim.Native.Nat.{ℕ, _+_, _*_, _/_, _%_, _<_}
 use native.Mathlib.Omega.{arith}
 use mathlib.Core.Path.{_≡_, refl, sym, ap, _∙_}
-use mathlib.Core.Bool.{Bool, true, false, cond, _&&_, false≢true}
+use mathlib.Core.Bool.{true, _&&_, false≢true}
 use mathlib.Core.List.{List, [], _∷_, _++_}
-use lib.Dec.{ltb, leb, eqb}
+use lib.Dec.{ltb, eqb}
 use borrow.Author.Tests.{lt-ltb, ltb-true, eqb-true}
 use Rattle.hex.specs.Digits.{digitOf, byteDigits, wordDigits}
-use Rattle.items.specs.Text.{spell, spellWords, valueOf, pairIn, byteItem, wordItem, Reading, reading, behind, bytesIn, wordsIn}
+use Rattle.items.specs.Text.{spell, pairIn, byteItem, wordItem, reading, bytesIn, wordsIn}
 use Rattle.rows.proofs.Bool.{split, and-left, and-right}
 use Rattle.items.proofs.Numerals.{pair-back, pair-is}
 
@@ -60,6 +60,11 @@ bytes-under (s ∷ []) = tt
 bytes-under (s ∷ h ∷ []) = tt
 bytes-under (s ∷ h ∷ l ∷ rest) =
     split (ltb (byteItem s h l) 256) (λ e. rw e (ltb-true (byteItem s h l) 256 e, bytes-under rest)) (λ e. rw e tt)
+
+-- words as they are printed: each after one space
+unfoldable pub spellWords : List ℕ → List ℕ
+spellWords [] = []
+spellWords (w ∷ ws) = 32 ∷ (wordDigits w ++ spellWords ws)
 
 -- words likewise: the item ..
 pub word-back : (w : ℕ) → w < 65536

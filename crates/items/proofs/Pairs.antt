@@ -10,7 +10,7 @@ use lib.Dec.{eqb, ltb}
 use lib.Bits.{bitAnd, and-block, and-mask}
 use lib.Pow.{pow-mono}
 use borrow.Author.Tests.{eqb-true, eq-eqb, lt-ltb}
-use Rattle.items.specs.Text.{valueOf, pairIn}
+use Rattle.items.specs.Text.{digitValue, pairIn}
 use Rattle.rows.proofs.Bool.{split, and-left, and-right}
 
 -- the k lowest digits of both bytes
@@ -30,7 +30,7 @@ again c = digit c + 48 + (digit c + 6) / 16 % 2 * 7
 
 -- the two ways of reading a character agree: a test that is computed
 abbrev test : ℕ → Bool
-test c = cond (eqb (again c) c) (eqb (valueOf c) (digit c)) (eqb (valueOf c) 16)
+test c = cond (eqb (again c) c) (eqb (digitValue c) (digit c)) (eqb (digitValue c) 16)
 
 abbrev every : ℕ → Bool
 every zero = true
@@ -43,14 +43,14 @@ every-at (suc n) c t h =
     (eq-or-lt-of-le (le-of-suc-le-suc h))
 
 all : every 256 ≡ true
-unfolding valueOf
+unfolding digitValue
 all = refl
 
-right : (c : ℕ) → c < 256 → eqb (again c) c ≡ true → valueOf c ≡ digit c
-right c h e = eqb-true (valueOf c) (digit c) (rw e at (every-at 256 c all h))
+right : (c : ℕ) → c < 256 → eqb (again c) c ≡ true → digitValue c ≡ digit c
+right c h e = eqb-true (digitValue c) (digit c) (rw e at (every-at 256 c all h))
 
-wrong : (c : ℕ) → c < 256 → eqb (again c) c ≡ false → valueOf c ≡ 16
-wrong c h e = eqb-true (valueOf c) 16 (rw e at (every-at 256 c all h))
+wrong : (c : ℕ) → c < 256 → eqb (again c) c ≡ false → digitValue c ≡ 16
+wrong c h e = eqb-true (digitValue c) 16 (rw e at (every-at 256 c all h))
 
 -- bytes that make the same number are the same
 apart : (a b c d : ℕ) → b < 256 → d < 256 → a * 256 + b ≡ c * 256 + d → (a ≡ c) × (b ≡ d)
@@ -98,5 +98,5 @@ module _ (h l : ℕ) (hb : h < 256) (lb : l < 256) where
       split (eqb (again h) h)
       (λ e.
       split (eqb (again l) l) (λ f. absurd (n (ap₂ (λ (x y : ℕ). x * 256 + y) (eqb-true (again l) l f) (eqb-true (again h) h e))))
-      (λ f. rw (wrong l lb f, and-false (ltb (valueOf h) 16))))
+      (λ f. rw (wrong l lb f, and-false (ltb (digitValue h) 16))))
       (λ e. rw (wrong h hb e))

@@ -1,17 +1,15 @@
 -- A reader's loop: what is stored, counted and found when the rest of the text has been read too.
 -- Assumes nothing.
-use Prim.Native.Nat.{ℕ, suc, _+_, _*_, _-_, _≤_, _<_}
+use Prim.Native.Nat.{ℕ, suc, _+_, _-_, _≤_, _<_}
 use native.Mathlib.Omega.{arith}
 use native.Mathlib.Numerals.{add-one}
 use mathlib.Core.Path.{_≡_, refl, sym, ap, _∙_}
-use mathlib.Core.Bool.{Bool, true, false, cond}
+use mathlib.Core.Bool.{Bool, true, false}
 use mathlib.Core.List.{List, [], _∷_}
 use lib.ListN.{length, drop, getD, set, length-drop, drop-of-length-le}
 use lib.Seq.{sets}
-use lib.Dec.{ltb}
 use borrow.Author.Tests.{lt-ltb, le-ltb}
 use Rattle.items.proofs.Lists.{next}
-use Rattle.items.specs.declared.Items.{Items}
 use Rattle.items.specs.declared.Items.the-variants.{Good, Bad}
 use Rattle.items.specs.Text.{Reading, reading, behind, itemsOf, byteItem, wordItem, bytesIn, wordsIn}
 

@@ -1,13 +1,14 @@
--- Bytes as they are printed, one by one from the front, and how many characters they are.
+-- What is printed, character by character, and how many characters it is.
 -- Assumes nothing.
-use Prim.Native.Nat.{ℕ, suc, _+_, _*_, _≤_, _<_}
+use Prim.Native.Nat.{ℕ, _+_, _*_, _/_, _%_, _≤_, _<_}
 use native.Mathlib.Omega.{arith}
+use borrow.Author.Tests.{lt-ltb, le-ltb}
 use mathlib.Core.Path.{_≡_, refl, ap}
 use mathlib.Core.List.{List, [], _∷_, _++_}
 use lib.ListN.{length, drop, getD, drop-of-length-le, length-append}
 use Rattle.hex.specs.Digits.{byteDigits}
 use Rattle.items.specs.Text.{spell}
-use Rattle.items.specs.Printed.{answered, bytesLine}
+use Rattle.items.specs.Printed.{answered, bytesLine, decimal, refusedLine}
 use Rattle.items.proofs.Lists.{next}
 
 -- the next byte
@@ -45,3 +46,13 @@ some-length c bs h = rw (some-line c bs h) (omega (arith, length-append (spell b
 pub line-most : (c : ℕ) (bs : List ℕ) → length (bytesLine c bs) ≤ 3 * length bs + 4
 line-most c [] = omega (arith, ap length (none-line c [] refl))
 line-most c (b ∷ bs) = omega (arith, some-length c (b ∷ bs) (λ e. omega arith))
+
+-- a refusal's number has one digit ..
+pub one-digit : (c n : ℕ) → n < 10 → refusedLine c n ≡ c ∷ 32 ∷ 33 ∷ (48 + n) ∷ 10 ∷ []
+unfolding refusedLine decimal
+one-digit c n h = rw (lt-ltb n 10 h)
+
+-- .. or two
+pub two-digits : (c n : ℕ) → 10 ≤ n → refusedLine c n ≡ c ∷ 32 ∷ 33 ∷ (48 + n / 10) ∷ (48 + n % 10) ∷ 10 ∷ []
+unfolding refusedLine decimal
+two-digits c n h = rw (le-ltb n 10 h)

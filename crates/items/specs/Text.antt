@@ -5,38 +5,34 @@ use mathlib.Core.List.{List, [], _∷_, _++_}
 use Prim.Native.Nat.{ℕ, _+_, _-_, _*_}
 use lib.Dec.{ltb, leb, eqb}
 use lib.ListN.{length}
-use Rattle.hex.specs.Digits.{byteDigits, wordDigits}
+use Rattle.hex.specs.Digits.{byteDigits}
+use Rattle.items.specs.Characters.{space}
 use Rattle.items.specs.declared.Items.{Items}
 use Rattle.items.specs.declared.Items.the-variants.{Good, Bad}
 
 -- bytes as they are printed: each after one space
 unfoldable pub spell : List ℕ → List ℕ
 spell [] = []
-spell (b ∷ bs) = 32 ∷ (byteDigits b ++ spell bs)
-
--- words likewise
-unfoldable pub spellWords : List ℕ → List ℕ
-spellWords [] = []
-spellWords (w ∷ ws) = 32 ∷ (wordDigits w ++ spellWords ws)
+spell (b ∷ bs) = space ∷ (byteDigits b ++ spell bs)
 
 -- a capital hex digit's value: 0 to 9 stand at 48, A to F at 65; 16 for every other character
-unfoldable pub valueOf : ℕ → ℕ
-valueOf c =
+unfoldable pub digitValue : ℕ → ℕ
+digitValue c =
     cond (leb 48 c && leb c 57) (c - 48)
     (cond (leb 65 c && leb c 70) (c - 55)
     16)
 
 -- two digits, the higher first; 256 where they are not two digits
 unfoldable pub pairIn : ℕ → ℕ → ℕ
-pairIn h l = cond (ltb (valueOf h) 16 && ltb (valueOf l) 16) (valueOf h * 16 + valueOf l) 256
+pairIn h l = cond (ltb (digitValue h) 16 && ltb (digitValue l) 16) (digitValue h * 16 + digitValue l) 256
 
 -- a byte's item: one space and two digits; 256 where the characters are no such item
 unfoldable pub byteItem : ℕ → ℕ → ℕ → ℕ
-byteItem s h l = cond (eqb s 32) (pairIn h l) 256
+byteItem s h l = cond (eqb s space) (pairIn h l) 256
 
 -- a word's item: one space and four digits; 65536 where the characters are no such item
 unfoldable pub wordItem : ℕ → ℕ → ℕ → ℕ → ℕ → ℕ
-wordItem s a b c d = cond (eqb s 32 && (ltb (pairIn a b) 256 && ltb (pairIn c d) 256)) (pairIn a b * 256 + pairIn c d) 65536
+wordItem s a b c d = cond (eqb s space && (ltb (pairIn a b) 256 && ltb (pairIn c d) 256)) (pairIn a b * 256 + pairIn c d) 65536
 
 -- a text read from its front: the values up to the first place that is no item, and whether that place is the end
 pub record Reading : Type 0 where

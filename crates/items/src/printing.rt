@@ -50,7 +50,13 @@ pub fn word_line(out: &mut [u8], at: usize, letter: u8, word: u16) -> usize
         out,
         at,
         &[
-            letter, b' ', digits[0], digits[1], digits[2], digits[3], b'\n',
+            letter,
+            b' ',
+            digits[0],
+            digits[1],
+            digits[2],
+            digits[3],
+            b'\n',
         ],
     )
 }

@@ -24,7 +24,7 @@ fn pair(high: u8, low: u8) -> u16
 pub fn byte_item(space: u8, high: u8, low: u8) -> u16
     ensures { λ r. ⌜ r ≡ byteItem space high low ⌝ }
 {
-    if space == 32 { pair(high, low) } else { 256 }
+    if space == b' ' { pair(high, low) } else { 256 }
 }
 
 // A word's item; 65536 where the characters are none.
@@ -33,7 +33,7 @@ pub fn word_item(space: u8, a: u8, b: u8, c: u8, d: u8) -> u32
 {
     let high = pair(a, b) as u32;
     let low = pair(c, d) as u32;
-    if (space == 32) & ((high < 256) & (low < 256)) {
+    if (space == b' ') & ((high < 256) & (low < 256)) {
         high * 256 + low
     } else {
         65536

@@ -1,19 +1,23 @@
 -- Each line of the table, written and read again; and a packet's line is nothing else.
 -- Assumes nothing.
-use Prim.Native.Nat.{ℕ, _<_, _/_, _%_}
+use Prim.Native.Nat.{ℕ, _<_}
 use native.Mathlib.Omega.{arith}
-use mathlib.Core.Path.{_≡_, refl, sym, ap, _∙_}
-use mathlib.Core.Bool.{true, false, false≢true}
+use mathlib.Core.Path.{_≡_, refl, ap, _∙_}
 use mathlib.Core.List.{List, [], _∷_, _++_}
 use lib.Dec.{eqb}
 use borrow.Author.Tests.{lt-ltb, eqb-true}
 use Rattle.hex.specs.Digits.{byteDigits, wordDigits}
-use Rattle.blocks.specs.declared.Store.{Store}
 use Rattle.blocks.specs.declared.Store.the-variants.{Priority, Ordinary}
-use Rattle.items.specs.Text.{spell, spellWords, bytesIn}
-use Rattle.lines.specs.Asked.{packet, deadline, put, command, dataIn, dataOut, status, samples, pipeByte, pipeTimeout, power, asking, oneByte, oneWord, packetIn, putIn, samplesIn, bareAsked, wordAsked, byteAsked, shortAsked, lineOf}
+use Rattle.items.specs.Text.{spell, bytesIn}
+use Rattle.lines.specs.Asked.{packet, deadline, put, command, dataIn, dataOut, status, samples, pipeByte, pipeTimeout, power, other, asking, oneByte, oneWord, packetIn, putIn, samplesIn, bareAsked, wordAsked, byteAsked, shortAsked, lineOf}
 use Rattle.rows.proofs.Bool.{split}
-use Rattle.items.proofs.Laws.{Under, byte-back, word-back, bytes-back, words-back, bytes-only}
+use Rattle.items.proofs.Laws.{Under, spellWords, byte-back, word-back, bytes-back, words-back, bytes-only}
+
+other-packet : (bs : List ℕ) → other ≡ packet bs → ⊥
+other-packet bs e = let z : _≡_ {A = ℕ} 0 1 = cc in omega arith
+
+packet-once : (a b : List ℕ) → packet a ≡ packet b → a ≡ b
+packet-once a b e = cc
 
 -- `P` and bytes
 pub packet-form : (bs : List ℕ) → Under 256 bs → lineOf (80 ∷ spell bs) ≡ asking (packet bs) bs []
@@ -21,13 +25,18 @@ unfolding lineOf packetIn
 packet-form bs u = rw (bytes-back bs u)
 
 -- and a line that is read as a packet is `P` and its bytes: no other text is one
-pub packet-only : (t : List ℕ) → packetIn t .whole ≡ true → t ≡ 80 ∷ spell (packetIn t .values)
+pub packet-only : (t bs : List ℕ) → packetIn t .asked ≡ packet bs → t ≡ 80 ∷ spell bs
 unfolding packetIn
-packet-only [] w = absurd (false≢true w)
-packet-only (c ∷ rest) w =
+packet-only [] bs w = absurd (other-packet bs w)
+packet-only (c ∷ rest) bs w =
     split (eqb c 80)
-    (λ e. rw e (ap (λ (x : ℕ). x ∷ rest) (eqb-true c 80 e) ∙ ap (λ (l : List ℕ). 80 ∷ l) (bytes-only rest (rw e at w))))
-    (λ e. absurd (false≢true (rw e at w)))
+    (λ e.
+    split (bytesIn rest .whole)
+    (λ h.
+    let same : bytesIn rest .values ≡ bs = packet-once (bytesIn rest .values) bs (rw (e, h) at w) in
+    ap (λ (x : ℕ). x ∷ rest) (eqb-true c 80 e) ∙ ap (λ (l : List ℕ). 80 ∷ l) (bytes-only rest h ∙ ap spell same))
+    (λ h. absurd (other-packet bs (rw (e, h) at w))))
+    (λ e. absurd (other-packet bs (rw e at w)))
 
 -- `B p` and `B o` and bytes
 pub priority-form : (bs : List ℕ) → Under 256 bs → lineOf (66 ∷ 32 ∷ 112 ∷ spell bs) ≡ asking (put Priority bs) bs []

@@ -1,7 +1,7 @@
 -- What a line of the console asks.
 -- Assumes nothing.
-use mathlib.Core.Bool.{Bool, false, _&&_, _||_, cond}
-use mathlib.Core.List.{List, [], _∷_}
+use mathlib.Core.Bool.{Bool, _&&_, _||_, cond}
+use mathlib.Core.List.{List, []}
 use Prim.Native.Nat.{ℕ}
 use lib.Dec.{ltb, eqb}
 use lib.ListN.{length, take, drop, getD}
@@ -9,55 +9,11 @@ use Rattle.blocks.specs.declared.Store.{Store}
 use Rattle.blocks.specs.declared.Store.the-variants.{Priority, Ordinary}
 use Rattle.items.specs.declared.Items.{Items}
 use Rattle.items.specs.declared.Items.the-variants.{Good, Bad}
+use Rattle.lines.specs.Letters.{letterP, letterD, letterB, letterC, letterW, letterR, letterS, letterA, letterI, letterT, letterZ, smallP, smallO}
 use Rattle.lines.specs.declared.Line.{Line}
 use Rattle.lines.specs.declared.Line.the-variants.{Packet, Deadline, Put, Command, Data, Read, Status, Samples, Byte, Timeout, Power, Other}
-use Rattle.items.specs.Text.{Reading, reading, bytesIn, wordsIn, byteItem, wordItem}
-
--- ---- the letters, as the programs read and print them
-
-abbrev pub letterP : ℕ
-letterP = 80
-
-abbrev pub letterD : ℕ
-letterD = 68
-
-abbrev pub letterB : ℕ
-letterB = 66
-
-abbrev pub letterC : ℕ
-letterC = 67
-
-abbrev pub letterW : ℕ
-letterW = 87
-
-abbrev pub letterR : ℕ
-letterR = 82
-
-abbrev pub letterS : ℕ
-letterS = 83
-
-abbrev pub letterA : ℕ
-letterA = 65
-
-abbrev pub letterI : ℕ
-letterI = 73
-
-abbrev pub letterT : ℕ
-letterT = 84
-
-abbrev pub letterZ : ℕ
-letterZ = 90
-
-abbrev pub smallP : ℕ
-smallP = 112
-
-abbrev pub smallO : ℕ
-smallO = 111
-
-abbrev pub space : ℕ
-space = 32
-
--- ---- what a line asks
+use Rattle.items.specs.Characters.{space}
+use Rattle.items.specs.Text.{Reading, bytesIn, wordsIn, byteItem, wordItem}
 
 -- a call with what it is given, a case for each line of the table; and every other line
 pub data Asked : Type 0 where
@@ -83,6 +39,10 @@ pub record Asking : Type 0 where
 abbrev pub asking : Asked → List ℕ → List ℕ → Asking
 asking a bs ws = record { asked = a; bytes = bs; words = ws }
 
+-- any other line, of which nothing is read
+abbrev pub unasked : Asking
+unasked = asking other [] []
+
 -- a run of items that has to be whole
 abbrev pub wholly : Reading → (List ℕ → Asked) → Asked
 wholly r f = cond (r .whole) (f (r .values)) other
@@ -94,9 +54,12 @@ oneByte t = cond (eqb (length t) 3) (byteItem (getD t 0 0) (getD t 1 0) (getD t 
 unfoldable pub oneWord : List ℕ → ℕ
 oneWord t = cond (eqb (length t) 5) (wordItem (getD t 0 0) (getD t 1 0) (getD t 2 0) (getD t 3 0) (getD t 4 0)) 65536
 
--- `P` bytes: what stands behind the letter is bytes. A line of any other letter is none
-unfoldable pub packetIn : List ℕ → Reading
-packetIn t = cond (eqb (getD t 0 0) letterP) (bytesIn (drop 1 t)) (reading [] false)
+-- `P` bytes. A line of any other letter is none
+abbrev pub packing : Reading → Asking
+packing r = asking (wholly r packet) (r .values) []
+
+unfoldable pub packetIn : List ℕ → Asking
+packetIn t = cond (eqb (getD t 0 0) letterP) (packing (bytesIn (drop 1 t))) unasked
 
 -- `B p` bytes, `B o` bytes
 abbrev pub isPut : ℕ → List ℕ → Bool
@@ -109,7 +72,7 @@ unfoldable pub putIn : List ℕ → Asking
 putIn t =
     cond (isPut smallP t) (putting Priority (bytesIn (drop 3 t)))
     (cond (isPut smallO t) (putting Ordinary (bytesIn (drop 3 t)))
-    (asking other [] []))
+    unasked)
 
 -- `A` byte words
 abbrev pub sampling : ℕ → Reading → Asking
@@ -118,7 +81,7 @@ sampling check r = asking (wholly r (samples check)) [] (r .values)
 unfoldable pub samplesIn : List ℕ → Asking
 samplesIn t =
     cond (ltb (oneByte (take 3 (drop 1 t))) 256) (sampling (oneByte (take 3 (drop 1 t))) (wordsIn (drop 4 t)))
-    (asking other [] [])
+    unasked
 
 -- the letters with nothing behind them: `D`, `R`, `S`, `T`, `Z`
 unfoldable pub bareAsked : ℕ → Asked
@@ -148,7 +111,7 @@ shortAsked c t =
 -- "A line is a letter and items after one space each": the table, by the letter
 unfoldable pub lineOf : List ℕ → Asking
 lineOf t =
-    cond (eqb (getD t 0 0) letterP) (asking (wholly (packetIn t) packet) (packetIn t .values) [])
+    cond (eqb (getD t 0 0) letterP) (packetIn t)
     (cond (eqb (getD t 0 0) letterB) (putIn t)
     (cond (eqb (getD t 0 0) letterA) (samplesIn t)
     (asking (shortAsked (getD t 0 0) (drop 1 t)) [] [])))

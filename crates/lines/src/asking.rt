@@ -10,7 +10,6 @@ ghost use mathlib.Core.Path.{_≡_};
 ghost use Prim.Native.Nat.{_*_, _≤_};
 ghost use lib.ListN.{length};
 ghost use lib.Seq.{sets};
-ghost use Rattle.items.specs.Text.{itemsOf};
 ghost use Rattle.lines.specs.Asked.{oneByte, oneWord, packetIn, putIn, samplesIn, bareAsked, wordAsked, byteAsked, shortAsked, lineOf, sayLine, counted};
 
 // Exactly one byte; 256 where the text is none.
@@ -35,19 +34,28 @@ fn one_word(text: &[u8]) -> u32
     }
 }
 
-// The bytes of a `P` line; any other line is bad.
-pub fn packet_line(line: &[u8], bytes: &mut [u8]) -> Items
+// `P` and bytes.
+pub fn packet_line(line: &[u8], bytes: &mut [u8]) -> Line
     requires { ⌜ length (now line) ≤ 3 * length (now bytes) ⌝ }
-    ensures { λ r. ⌜ r ≡ itemsOf (packetIn (now (line .entry))) ⌝ }
-    ensures { λ _. ⌜ now (bytes .exit) ≡ sets (now (bytes .entry)) 0 (packetIn (now (line .entry)) .values) ⌝ }
+    ensures { λ r. ⌜ r ≡ sayLine (packetIn (now (line .entry)) .asked) ⌝ }
+    ensures { λ _. ⌜ now (bytes .exit) ≡ sets (now (bytes .entry)) 0 (packetIn (now (line .entry)) .bytes) ⌝ }
 {
     if line.len() == 0 {
-        return Items::Bad;
+        return Line::Other;
     }
     if line[0] != b'P' {
-        return Items::Bad;
+        return Line::Other;
     }
-    bytes_in(&line[1..], bytes)
+    packet_of(bytes_in(&line[1..], bytes))
+}
+
+fn packet_of(items: Items) -> Line
+    ensures { λ r. ⌜ r ≡ counted items Line.Packet ⌝ }
+{
+    match items {
+        Items::Good(n) => Line::Packet(n),
+        Items::Bad => Line::Other,
+    }
 }
 
 // `B p` or `B o`, and bytes.
@@ -101,15 +109,6 @@ fn samples_of(check: u8, items: Items) -> Line
 {
     match items {
         Items::Good(n) => Line::Samples(check, n),
-        Items::Bad => Line::Other,
-    }
-}
-
-fn packet_of(items: Items) -> Line
-    ensures { λ r. ⌜ r ≡ counted items Line.Packet ⌝ }
-{
-    match items {
-        Items::Good(n) => Line::Packet(n),
         Items::Bad => Line::Other,
     }
 }
@@ -190,7 +189,7 @@ pub fn read_line(line: &[u8], bytes: &mut [u8], words: &mut [u16]) -> Line
     }
     let letter = line[0];
     if letter == b'P' {
-        return packet_of(packet_line(line, bytes));
+        return packet_line(line, bytes);
     }
     if letter == b'B' {
         return put_line(line, bytes);

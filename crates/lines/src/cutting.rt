@@ -6,8 +6,7 @@ use items::append;
 ghost use mathlib.Core.Path.{_≡_};
 ghost use mathlib.Core.Bool.{true};
 ghost use Prim.Native.Nat.{ℕ, _+_, _≤_};
-ghost use lib.ListN.{length, take, drop};
-ghost use lib.Seq.{sets};
+ghost use lib.ListN.{length, drop};
 ghost use Rattle.lines.specs.Cut.{before, heldOf, keptOf, lastOf, cutOf, heldLine, foundIn};
 
 // The longest line: `P` and 65,535 bytes.

@@ -1,18 +1,16 @@
 -- A part has its length, and all of a text is its first characters where it has fewer.
 use native.Mathlib.Omega.{arith}
-use Prim.Native.Nat.{_≤_}
-use mathlib.Core.Path.{_≡_, refl, sym}
-use lib.ListN.{length, take}
+use mathlib.Core.Path.{refl, sym}
+use lib.ListN.{length}
 use lib.Seq.{length-take-le, take-all}
 use native.Mathlib.Nat.{le-refl}
 use denote.Ref.{now}
+use borrow.Author.Needs.{needs}
 use Rattle.items.proofs.parts.front.Statement.{statement}
 use Rattle.items.proofs.parts.front.Tie as tie
 
 slice-aggregate-result : tie.Need-slice-aggregate-result
-slice-aggregate-result c =
-    let a = c .before .before .args in
-    sym (length-take-le (a .n) (now (a .text)) (omega arith))
+slice-aggregate-result c = sym (length-take-le _ _ (search needs))
 
 returns : tie.Need-returns
 returns c =

@@ -1,6 +1,6 @@
 -- A part has its length, and all words are the first ones where there are fewer.
 use native.Mathlib.Omega.{arith}
-use mathlib.Core.Path.{_≡_, sym}
+use mathlib.Core.Path.{sym}
 use lib.Seq.{length-take-le, take-all}
 use denote.Ref.{now}
 use borrow.Author.Needs.{needs}
@@ -8,9 +8,7 @@ use Rattle.items.proofs.parts.front_words.Statement.{statement}
 use Rattle.items.proofs.parts.front_words.Tie as tie
 
 slice-aggregate-result : tie.Need-slice-aggregate-result
-slice-aggregate-result c =
-    let a = c .before .before .args in
-    sym (length-take-le (a .n) (now (a .words)) (omega arith))
+slice-aggregate-result c = sym (length-take-le _ _ (search needs))
 
 returns : tie.Need-returns
 returns c = search needs

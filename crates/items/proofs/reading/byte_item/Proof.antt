@@ -1,5 +1,4 @@
 -- The test of the code is that of the definition.
-use mathlib.Core.Path.{_≡_}
 use borrow.Author.Tests.{ne-eqb}
 use Rattle.items.specs.Text.{byteItem}
 use borrow.Author.Needs.{needs}

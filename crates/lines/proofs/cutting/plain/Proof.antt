@@ -1,6 +1,6 @@
 -- No newline stands among the characters that were looked at, as long as all of them are at or above the space.
 -- Assumes nothing.
-use Prim.Native.Nat.{ℕ, _≤_, _-_, _+_}
+use Prim.Native.Nat.{_≤_, _-_, _+_}
 use native.Mathlib.Omega.{arith}
 use mathlib.Core.Bool.{true}
 use mathlib.Core.Path.{_≡_}
