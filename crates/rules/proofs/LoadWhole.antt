@@ -11,7 +11,7 @@ use lib.Seq.{sets, sets-eq, length-sets, take-at, take-all}
 use Rattle.rows.proofs.Bool.{split}
 use Rattle.tables.specs.declared.Header.{Header}
 use Rattle.tables.specs.declared.Transfer.the-variants.{Idle}
-use Rattle.tables.specs.declared.Order.the-variants.{Writing}
+use Rattle.orders.specs.declared.Order.the-variants.{Writing}
 use Rattle.tables.specs.Tables.{wordsOf}
 use Rattle.tables.specs.Bounds.{soundTransfer}
 use Rattle.tables.specs.Port.{Desk, Tabled, tabled, withTransfer, commandOf, orderObeyed, tablesAfter, loadRight, loadJudged, wordTaken, dataInOf}

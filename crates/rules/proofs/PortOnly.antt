@@ -10,12 +10,12 @@ use Rattle.rows.proofs.Bool.{split}
 use Rattle.rows.proofs.Laws.{never-both}
 use Rattle.tables.specs.declared.Words.{Words}
 use Rattle.tables.specs.declared.Header.{Header}
-use Rattle.tables.specs.declared.Order.{Order}
-use Rattle.tables.specs.declared.Order.the-variants.{Other, Stop, Restart, Next, Writing, Reading}
+use Rattle.orders.specs.declared.Order.{Order}
+use Rattle.orders.specs.declared.Order.the-variants.{Other, Stop, Restart, Next, Writing, Reading}
 use Rattle.tables.specs.declared.Transfer.{Transfer}
 use Rattle.tables.specs.declared.Transfer.the-variants.{Idle, Address, Load, Read}
 use Rattle.tables.specs.Tables.{readPlace}
-use Rattle.tables.specs.Command.{orderHeard}
+use Rattle.orders.specs.Command.{orderHeard}
 use Rattle.tables.specs.Port.{Desk, Tabled, tabled, startWords, closeOf, beginsAt, fits, readOpenedAt, readOpened, restarted, orderObeyed, commandOf, wrongWay, loadRight, loadJudged, loadOf, wordTaken, dataInOf, wordGiven, dataOutOf, statusOf}
 use Rattle.rules.specs.State.{freshPod, deskIn}
 use Rattle.rules.specs.Obey.{initialisedPod, doneBy}

@@ -15,7 +15,7 @@ use Rattle.tables.specs.declared.Header.{Header}
 use Rattle.tables.specs.declared.Places.{Places}
 use Rattle.tables.specs.declared.Words.{Words}
 use Rattle.tables.specs.declared.Answered.{Answered}
-use Rattle.tables.specs.declared.Order.the-variants.{Reading}
+use Rattle.orders.specs.declared.Order.the-variants.{Reading}
 use Rattle.tables.specs.declared.Given.the-variants.{Nowhere}
 use Rattle.tables.specs.declared.Transfer.the-variants.{Idle, Read}
 use Rattle.tables.specs.Tables.{Three, tablesSized, wordsOf, withReadPlace}

@@ -8,12 +8,12 @@ use lib.ListN.{set}
 use Rattle.rows.proofs.Bool.{split}
 use Rattle.tables.specs.declared.Header.{Header}
 use Rattle.tables.specs.declared.Words.{Words}
-use Rattle.tables.specs.declared.Order.{Order}
-use Rattle.tables.specs.declared.Order.the-variants.{Other, Stop, Restart, Next, Writing, Reading}
+use Rattle.orders.specs.declared.Order.{Order}
+use Rattle.orders.specs.declared.Order.the-variants.{Other, Stop, Restart, Next, Writing, Reading}
 use Rattle.tables.specs.declared.Transfer.{Transfer}
 use Rattle.tables.specs.declared.Transfer.the-variants.{Idle, Address, Load, Read}
 use Rattle.tables.specs.Tables.{Three, starts}
-use Rattle.tables.specs.Command.{orderHeard}
+use Rattle.orders.specs.Command.{orderHeard}
 use Rattle.tables.specs.Port.{Desk, Tabled, tabled, tablesAfter, commandOf, loadRight, loadJudged, loadOf, wordTaken, dataInOf}
 use Rattle.rules.specs.State.{deskIn}
 use Rattle.rules.specs.Obey.{doneBy}

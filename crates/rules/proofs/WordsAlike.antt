@@ -15,12 +15,12 @@ use Rattle.rows.specs.Rows.{Out, out}
 use Rattle.rows.proofs.Bool.{split, by-test}
 use Rattle.tables.specs.declared.Header.{Header}
 use Rattle.tables.specs.declared.Words.{Words}
-use Rattle.tables.specs.declared.Order.{Order}
-use Rattle.tables.specs.declared.Order.the-variants.{Other, Stop, Restart, Next, Writing, Reading}
+use Rattle.orders.specs.declared.Order.{Order}
+use Rattle.orders.specs.declared.Order.the-variants.{Other, Stop, Restart, Next, Writing, Reading}
 use Rattle.tables.specs.declared.Transfer.{Transfer}
 use Rattle.tables.specs.declared.Transfer.the-variants.{Idle, Address, Load, Read}
 use Rattle.tables.specs.Tables.{Three}
-use Rattle.tables.specs.Command.{orderHeard}
+use Rattle.orders.specs.Command.{orderHeard}
 use Rattle.tables.specs.Port.{Desk, desk, tabled, dataCount, fits, closeOf, wrongWay, readOpenedAt, readOpened, restarted, orderObeyed, commandOf, loadRight, storedIn, loadJudged, loadOf, wordTaken, dataInOf, readNext, wordGiven, dataOutOf, statusOf}
 use Rattle.tables.specs.Bounds.{soundTransfer, soundWords}
 use Rattle.tables.proofs.Limits.{sound-transfer, load-in}

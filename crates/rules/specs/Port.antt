@@ -6,12 +6,12 @@ use Rattle.tables.specs.declared.Words.{Words}
 use Rattle.tables.specs.declared.Places.{Places}
 use Rattle.tables.specs.declared.Given.{Given}
 use Rattle.tables.specs.declared.Given.the-variants.{Nowhere, At}
-use Rattle.tables.specs.declared.Order.{Order}
-use Rattle.tables.specs.declared.Order.the-variants.{Other, Stop, Restart, Next, Writing, Reading}
+use Rattle.orders.specs.declared.Order.{Order}
+use Rattle.orders.specs.declared.Order.the-variants.{Other, Stop, Restart, Next, Writing, Reading}
 use Rattle.tables.specs.declared.Transfer.{Transfer}
 use Rattle.tables.specs.declared.Transfer.the-variants.{Idle, Address, Load, Read}
 use Rattle.tables.specs.Tables.{readPlace, withReadPlace}
-use Rattle.tables.specs.Command.{orderHeard}
+use Rattle.orders.specs.Command.{orderHeard}
 use Rattle.tables.specs.Port.{Desk, startWords, closeOf, beginsAt}
 use Rattle.rules.specs.Families.{WordCall, command, dataIn, dataOut, status, wordOf}
 use Rattle.rules.specs.History.{Event, nothing, begins, sleeps, updates, writes, opens, closes, acknowledges, puts, words, pipes}

@@ -1,8 +1,8 @@
--- `tables::asked::parts` meets its contract.
+-- `orders::parts` meets its contract.
 use borrow.Author.Needs.{needs}
-use Rattle.tables.specs.Command.{partsOf}
-use Rattle.tables.proofs.asked.parts.Statement.{statement}
-use Rattle.tables.proofs.asked.parts.Tie as tie
+use Rattle.orders.specs.Command.{partsOf}
+use Rattle.orders.proofs.asked.parts.Statement.{statement}
+use Rattle.orders.proofs.asked.parts.Tie as tie
 
 odd-ones-requires : tie.Need-odd-ones-requires
 odd-ones-requires c κs = search needs

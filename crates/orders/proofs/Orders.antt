@@ -5,12 +5,12 @@ use mathlib.Core.List.{List}
 use Prim.Native.Nat.{ℕ}
 use lib.Dec.{eqb}
 use lib.ListN.{length, getD}
-use Rattle.tables.specs.declared.Table.{Table}
-use Rattle.tables.specs.declared.Table.the-variants.{Five, Six, Seven}
-use Rattle.tables.specs.declared.Parts.{Parts}
-use Rattle.tables.specs.declared.Order.{Order}
-use Rattle.tables.specs.declared.Order.the-variants.{Other, Stop, Restart, Next, Writing, Reading}
-use Rattle.tables.specs.Command.{writes, lengthAllowed, tableAsked, orderOf, orderSaid}
+use Rattle.orders.specs.declared.Table.{Table}
+use Rattle.orders.specs.declared.Table.the-variants.{Five, Six, Seven}
+use Rattle.orders.specs.declared.Parts.{Parts}
+use Rattle.orders.specs.declared.Order.{Order}
+use Rattle.orders.specs.declared.Order.the-variants.{Other, Stop, Restart, Next, Writing, Reading}
+use Rattle.orders.specs.Command.{writes, lengthAllowed, tableAsked, orderOf, orderSaid}
 
 -- an even count of ones is not accepted, whatever else the word says
 pub even-other : (p : Parts) → not (p .odd) ≡ true → orderOf p ≡ Other

@@ -1,13 +1,13 @@
--- `tables::asked::odd_ones` meets its contract: before turn i the count and the ones of the 16 - i digits that are left make all the ones.
+-- `orders::odd_ones` meets its contract: before turn i the count and the ones of the 16 - i digits that are left make all the ones.
 use lib.Count.{ones, onesIn}
 use Prim.Native.Nat.{ℕ, suc, _+_, _-_, _%_, _/_, _≤_}
 use mathlib.Core.Path.{_≡_, ap}
 use native.Mathlib.Omega.{arith}
 use borrow.Author.Needs.{needs}
-use Rattle.tables.specs.Command.{oddOnes}
-use Rattle.tables.proofs.Ones.{ones-in}
-use Rattle.tables.proofs.asked.odd_ones.Statement.{statement}
-use Rattle.tables.proofs.asked.odd_ones.Tie as tie
+use Rattle.orders.specs.Command.{oddOnes}
+use Rattle.orders.proofs.Ones.{ones-in}
+use Rattle.orders.proofs.asked.odd_ones.Statement.{statement}
+use Rattle.orders.proofs.asked.odd_ones.Tie as tie
 
 abbrev Inv-loop : tie.InvT-loop
 Inv-loop word rest₀ count₀ i₀ rest count i = (i ≤ 16) × (count ≤ i) × (count + onesIn (16 - i) rest ≡ onesIn 16 word)

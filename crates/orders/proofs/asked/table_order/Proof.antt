@@ -1,9 +1,9 @@
--- `tables::asked::table_order` meets its contract.
+-- `orders::table_order` meets its contract.
 use borrow.Author.Needs.{needs}
 use borrow.Author.Tests.{eq-eqb, ne-eqb}
 use mathlib.Core.Path.{_∙_}
-use Rattle.tables.proofs.asked.table_order.Statement.{statement}
-use Rattle.tables.proofs.asked.table_order.Tie as tie
+use Rattle.orders.proofs.asked.table_order.Statement.{statement}
+use Rattle.orders.proofs.asked.table_order.Tie as tie
 
 transfer-requires : tie.Need-transfer-requires
 transfer-requires c κs = search needs

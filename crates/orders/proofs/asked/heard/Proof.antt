@@ -1,9 +1,9 @@
--- `tables::asked::heard` meets its contract.
+-- `orders::heard` meets its contract.
 use borrow.Author.Needs.{needs}
 use mathlib.Core.Path.{_∙_, ap}
-use Rattle.tables.specs.Command.{orderOf, orderHeard, orderSaid}
-use Rattle.tables.proofs.asked.heard.Statement.{statement}
-use Rattle.tables.proofs.asked.heard.Tie as tie
+use Rattle.orders.specs.Command.{orderOf, orderHeard, orderSaid}
+use Rattle.orders.proofs.asked.heard.Statement.{statement}
+use Rattle.orders.proofs.asked.heard.Tie as tie
 
 parts-requires : tie.Need-parts-requires
 parts-requires c κs = search needs

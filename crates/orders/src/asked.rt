@@ -1,10 +1,10 @@
-// The command word: its parts, and what it asks for.
+// What a command word asks for, by its parts.
 use crate::Order;
 use crate::Parts;
 use crate::Table;
 ghost use mathlib.Core.Path.{_≡_};
 ghost use Prim.Native.Nat.{_≤_};
-ghost use Rattle.tables.specs.Command.{oddOnes, partsOf, writes, lengthAllowed, transferAsked, tableAsked, orderOf, orderHeard, orderSaid};
+ghost use Rattle.orders.specs.Command.{oddOnes, partsOf, writes, lengthAllowed, transferAsked, tableAsked, orderOf, orderHeard, orderSaid};
 
 // Whether the count of ones is odd.
 fn odd_ones(word: u16) -> bool

@@ -1,10 +1,10 @@
--- `tables::asked::order` meets its contract: at each `return` the tests that led there pick the case.
+-- `orders::order` meets its contract: at each `return` the tests that led there pick the case.
 use borrow.Author.Needs.{needs}
 use mathlib.Core.Path.{sym, _∙_}
-use Rattle.tables.proofs.Orders.{even-other, is-stop, is-restart, is-next, is-table, is-other}
-use Rattle.tables.proofs.Limits.{allowed-has}
-use Rattle.tables.proofs.asked.order.Statement.{statement}
-use Rattle.tables.proofs.asked.order.Tie as tie
+use Rattle.orders.proofs.Orders.{even-other, is-stop, is-restart, is-next, is-table, is-other}
+use Rattle.orders.proofs.Lengths.{allowed-has}
+use Rattle.orders.proofs.asked.order.Statement.{statement}
+use Rattle.orders.proofs.asked.order.Tie as tie
 
 returns : tie.Need-returns
 returns c = sym (even-other _ (c .if1 .taken))

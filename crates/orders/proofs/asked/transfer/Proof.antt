@@ -1,7 +1,7 @@
--- `tables::asked::transfer` meets its contract.
+-- `orders::transfer` meets its contract.
 use borrow.Author.Needs.{needs}
-use Rattle.tables.proofs.asked.transfer.Statement.{statement}
-use Rattle.tables.proofs.asked.transfer.Tie as tie
+use Rattle.orders.proofs.asked.transfer.Statement.{statement}
+use Rattle.orders.proofs.asked.transfer.Tie as tie
 
 cast-n : tie.Need-cast-n
 cast-n c = search needs

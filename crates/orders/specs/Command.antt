@@ -4,12 +4,17 @@ use mathlib.Core.Bool.{Bool, not, _&&_, cond}
 use mathlib.Core.List.{List, [], _∷_}
 use lib.Dec.{leb, eqb}
 use lib.Count.{ones}
-use Rattle.tables.specs.declared.Table.{Table}
-use Rattle.tables.specs.declared.Table.the-variants.{Five, Six, Seven}
-use Rattle.tables.specs.declared.Parts.{Parts}
-use Rattle.tables.specs.declared.Order.{Order}
-use Rattle.tables.specs.declared.Order.the-variants.{Other, Stop, Restart, Next, Writing, Reading}
-use Rattle.tables.specs.Tables.{tableNumber}
+use Rattle.orders.specs.declared.Table.{Table}
+use Rattle.orders.specs.declared.Table.the-variants.{Five, Six, Seven}
+use Rattle.orders.specs.declared.Parts.{Parts}
+use Rattle.orders.specs.declared.Order.{Order}
+use Rattle.orders.specs.declared.Order.the-variants.{Other, Stop, Restart, Next, Writing, Reading}
+
+-- a table's number is the command that loads and reads it
+abbrev pub tableNumber : Table → ℕ
+tableNumber Five = 5
+tableNumber Six = 6
+tableNumber Seven = 7
 
 -- the count of ones is odd
 unfoldable pub oddOnes : ℕ → Bool
