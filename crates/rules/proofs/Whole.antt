@@ -10,7 +10,7 @@ use Rattle.rules.proofs.TablesOnly.{tables-only}
 use Rattle.rules.proofs.MessageError.{message-error, error-is-history, status-word-shows}
 use Rattle.rules.proofs.Checked.{packet-answered, opens-exactly, damage, error-unchanged}
 use Rattle.rules.proofs.Blocks.{blocks-are-history}
-use Rattle.rules.proofs.Shows.{receive-is-history, status-is-history, read-is-written}
+use Rattle.rules.proofs.Asked.{receive-is-history, status-is-history, read-is-written}
 use Rattle.rules.proofs.Flow.{pipe-is-history}
 use Rattle.rules.proofs.Frames.{frames-are-history}
 use Rattle.rules.proofs.NoTrace.{no-trace, as-from-power, no-trace-past}
