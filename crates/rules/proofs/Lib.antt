@@ -15,7 +15,7 @@ pub mod Holds
 pub mod Written
 pub mod Blocks
 pub mod Replied
-pub mod Shows
+pub mod Asked
 pub mod Sound
 pub mod Answered
 pub mod Checked

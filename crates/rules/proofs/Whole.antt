@@ -11,7 +11,7 @@ use Rattle.rules.proofs.MessageError.{message-error, error-is-history, 
 use Rattle.rules.proofs.PortOnly.{port-only, places-only}
 use Rattle.rules.proofs.Checked.{packet-answered, opens-exactly, damage, damage-answered, error-unchanged}
 use Rattle.rules.proofs.Blocks.{blocks-are-history}
-use Rattle.rules.proofs.Shows.{receive-is-history, status-is-history, read-is-written}
+use Rattle.rules.proofs.Asked.{receive-is-history, status-is-history, read-is-written}
 use Rattle.rules.proofs.Flow.{pipe-is-history}
 use Rattle.rules.proofs.Frames.{frames-are-history}
 use Rattle.rules.proofs.NoTrace.{no-trace, as-from-power, no-trace-past}

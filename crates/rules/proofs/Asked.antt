@@ -1,7 +1,7 @@
 -- Demand 2: what a receive, a Status and a parameter read are answered is what the history says.
 -- Assumes nothing.
 use Prim.Native.Nat.{ℕ}
-use mathlib.Core.Path.{_≡_, refl, ap, _∙_}
+use mathlib.Core.Path.{_≡_, refl, sym, ap, _∙_}
 use mathlib.Core.Bool.{Bool, true, false, not, _&&_, cond}
 use mathlib.Core.List.{List, [], _∷_}
 use lib.ListN.{length, replicate}
@@ -23,7 +23,7 @@ use Rattle.rules.specs.Obey.{receives, received, receiveChecks, checksOf
 use Rattle.rules.specs.Calls.{meantBody}
 use Rattle.rules.specs.World.{World, Call, answering, final, powered}
 use Rattle.rules.specs.History.{events, fold, markBy}
-use Rattle.rules.specs.Replies.{reportFrom, statusFrom, readAnswered, receivedOf, receivedFrom}
+use Rattle.rules.specs.Replies.{waitingFrom, reportFrom, statusFrom, readAnswered, receivedOf, receivedFrom}
 use Rattle.rules.specs.Demands.{ReceiveIsHistory, StatusIsHistory, ReadIsWritten}
 use Rattle.rules.proofs.Replied.{commandAnswer, command-told}
 use Rattle.rules.proofs.Holds.{awake-is, fields-are}
@@ -78,18 +78,21 @@ unfolding missingOf missingIds isId
 missing-are q u h =
     ap (sets (replicate 8 0) 0) (same-tests (isMissing q) (λ id. paramRow id .asked && not (u id)) (λ id e. ap (λ m. paramRow id .asked && not m) (h id e)) paramIds refl)
 
+counts-are : (s : Store) (l : Lent) (cs : List Call) → ringOf s (final (powered l) cs .pod) .waiting ≡ length (waitingFrom s (events (powered l) cs))
+counts-are s l cs = sym (counted s (final (powered l) cs)) ∙ ap length (blocks-are-history s l cs)
+
 report-is : (l : Lent) (cs : List Call) → reportOf (final (powered l) cs .pod) ≡ reportFrom (events (powered l) cs)
 unfolding reportOf reportFrom
 report-is l cs =
-    let w = final (powered l) cs in
-    rw (
-      fields-are l cs,
-      ← counted Priority w,
-      ← counted Ordinary w,
-      blocks-are-history Priority l cs,
-      blocks-are-history Ordinary l cs,
-      missing-are (w .pod .params) (λ id. fold (markBy id) false (events (powered l) cs)) (λ id i. mark-is id i l cs),
-    )
+    let ids = missing-are (final (powered l) cs .pod .params) (λ id. fold (markBy id) false (events (powered l) cs)) (λ id k. mark-is id k l cs) in
+    λ i.
+    record {
+      mode = fields-are l cs i .mode;
+      flags = fields-are l cs i .flags;
+      priority = counts-are Priority l cs i;
+      ordinary = counts-are Ordinary l cs i;
+      ids = ids i;
+    }
 
 status-shown : (w : World)
     → commandAnswer command.Status w
