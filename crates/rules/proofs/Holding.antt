@@ -127,7 +127,8 @@ module _ (h : Header) (k j : ℕ) (along : k < h .n) (before : j < h .n) (l m : 
         → overRoom (given (answered (replied first (given (doneBy c (a .lent) (shut (a .pod))))) room)) a
         ≡ held (Load h k) l (overRoom (given (answered (replied first (given (doneBy c (b .lent) (shut (b .pod))))) room)) b)
     unfolding doneBy initialisedPod freshPod startWords closeOf
-    obeyed-same (asked.Initialise f) first = telling-same (says first (gave success)) Idle Idle refl (initialisedPod f) (withTables starts (w .lent))
+    obeyed-same (asked.Initialise f) first =
+        telling-same (says first _) Idle Idle refl (doneBy (asked.Initialise f) (w .lent) (shut (w .pod)) .pod) (withTables starts (w .lent))
     obeyed-same asked.Status first = telling-same (says first _) (Load h k) (Load h j) refl (withExchange Status (w .pod)) (w .lent)
     obeyed-same (asked.Update f) first = telling-same (says first _) (Load h k) (Load h j) refl (withFields f (shut (w .pod))) (w .lent)
     obeyed-same (asked.Write id v) first =
