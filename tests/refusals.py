@@ -212,7 +212,7 @@ def transfer_text(pod):
 def transfers():
     cases = []
     for table in TABLES:
-        pairs = [(3, 0), (4, 0), (4, 3), (4, 4), (64, 0), (64, 63), (64, 64), (65, 0), (65, 64), (GREATEST, 0)]
+        pairs = [(3, 0), (4, 0), (4, 3), (4, 4), (64, 0), (64, 63), (64, 64), (65, 0), (65, 64), (255, 0)]
         cases += [("load", table, n, k) for n, k in pairs]
     for table, size in TABLES.items():
         pairs = [(3, 0), (4, 0), (4, 3), (4, 4), (64, 63), (64, 64), (65, 0)]
@@ -220,7 +220,7 @@ def transfers():
         # N words have N - 3 data words: the last place from which they fit, and the next one
         for n in (4, 64):
             cases += [("read", table, n, 0, size - (n - 3) + over) for over in (0, 1)]
-        cases.append(("read", table, 4, 0, GREATEST))
+        cases.append(("read", table, 4, 0, 255))
     for t in cases:
         yield deadline(Pod(transfer=t), "", transfer_text)
 

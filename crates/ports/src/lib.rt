@@ -21,14 +21,14 @@ pub struct Spoken {
 // The letter behind which a call says what it says; `?` for a line that calls nothing.
 fn letter(line: Line) -> u8 {
     match line {
-        Line::Deadline => 68,
-        Line::Put(_, _) => 66,
-        Line::Command(_) => 67,
-        Line::Data(_) => 87,
-        Line::Read => 82,
-        Line::Status => 83,
-        Line::Power => 90,
-        _ => 63,
+        Line::Deadline => b'D',
+        Line::Put(_, _) => b'B',
+        Line::Command(_) => b'C',
+        Line::Data(_) => b'W',
+        Line::Read => b'R',
+        Line::Status => b'S',
+        Line::Power => b'Z',
+        _ => b'?',
     }
 }
 
@@ -66,7 +66,7 @@ fn shown(pod: Pod, framed: Framed, out: &mut [u8; 65536], at: usize) -> Spoken
     }
     Spoken {
         pod,
-        at: put_answer(out, at, 65, answer),
+        at: put_answer(out, at, b'A', answer),
     }
 }
 
@@ -147,8 +147,8 @@ pub fn answer(
             let set = lines::front_words(words, n);
             shown(pod, pod::samples(pod, check, set), out, at)
         }
-        Line::Byte(byte) => piped(pod::pipe_byte(pod, byte), 73, out, at),
-        Line::Timeout => piped(pod::pipe_timeout(pod), 84, out, at),
+        Line::Byte(byte) => piped(pod::pipe_byte(pod, byte), b'I', out, at),
+        Line::Timeout => piped(pod::pipe_timeout(pod), b'T', out, at),
         _ => {
             let called = call(line, pod, bytes, room, priority, ordinary, five, six, seven);
             said(line, called, room, out, at)

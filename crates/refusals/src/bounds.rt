@@ -137,9 +137,9 @@ fn open(
     exchange: u8,
     transfer: u8,
     table: u8,
-    n: usize,
-    k: usize,
-    start: usize,
+    n: u8,
+    k: u8,
+    start: u8,
 ) {
     tried(what, with_open(on, exchange, transfer, table, n, k, start));
 }
@@ -155,11 +155,11 @@ pub fn loads(table: u8) {
     open(b'X', true, b'4', b'2', table, 64, 64, 0);
     open(b'X', true, b'4', b'2', table, 65, 0, 0);
     open(b'X', true, b'4', b'2', table, 65, 64, 0);
-    open(b'X', true, b'4', b'2', table, 18446744073709551615, 0, 0);
+    open(b'X', true, b'4', b'2', table, 255, 0, 0);
 }
 
 // The same of a read from 0; then reads of one word and of 61 that end with the table, and one word past it.
-pub fn reads(table: u8, size: usize, past: usize, long: usize, over: usize) {
+pub fn reads(table: u8, size: u8, past: u8, long: u8, over: u8) {
     open(b'X', true, b'4', b'3', table, 3, 0, 0);
     open(b'X', true, b'4', b'3', table, 4, 0, 0);
     open(b'X', true, b'4', b'3', table, 4, 3, 0);
@@ -171,7 +171,7 @@ pub fn reads(table: u8, size: usize, past: usize, long: usize, over: usize) {
     open(b'X', true, b'4', b'3', table, 4, 0, past);
     open(b'X', true, b'4', b'3', table, 64, 0, long);
     open(b'X', true, b'4', b'3', table, 64, 0, over);
-    open(b'X', true, b'4', b'3', table, 4, 0, 18446744073709551615);
+    open(b'X', true, b'4', b'3', table, 4, 0, 255);
 }
 
 // Nothing open, each exchange and each transfer, and both.

@@ -7,6 +7,7 @@ use told::handed;
 use told::held;
 use told::store_of;
 use told::tables_kept;
+use rules::Called;
 ghost use Prim.Native.Nat.{_≤_};
 
 // Initialise with all fields 0 and poll 1,000. It would change the state, the room and the tables.
@@ -66,24 +67,31 @@ pub fn command_word(what: u8, mode: u8, five: usize, six: usize, seven: usize)
     let mut a = [0x5A5A; 129];
     let mut b = [0x5A5A; 129];
     let mut c = [0x5A5A; 129];
-    let called = pod::command_word(
+    let worded = pod::command_word(
         pod,
         RESTART,
         &mut a[0..five],
         &mut b[0..six],
         &mut c[0..seven],
     );
+    let answer = worded.answer;
+    let words = worded.words;
+    let called = Called {
+        answer,
+        pod: told::with_port(pod, words),
+    };
     ended(what, called, 0, tables_kept(a, b, c));
 }
 
-// No state is handed in, so the tables alone can be kept.
+// Power on looks at no state.
 pub fn power_on(five: usize, six: usize, seven: usize)
     requires { ⌜ (five ≤ 129) × (six ≤ 129) × (seven ≤ 129) ⌝ }
 {
     let mut a = [0x5A5A; 129];
     let mut b = [0x5A5A; 129];
     let mut c = [0x5A5A; 129];
-    let called = pod::power_on(&mut a[0..five], &mut b[0..six], &mut c[0..seven]);
+    let pod = handed(true, 0, 0);
+    let called = pod::power_on(pod, &mut a[0..five], &mut b[0..six], &mut c[0..seven]);
     let answer = called.answer;
     answered(answer);
     held(tables_kept(a, b, c));

@@ -5,11 +5,11 @@ use crate::lent::packet;
 use crate::lent::power_on;
 use crate::lent::put;
 use told::answered;
-use told::came;
 use told::handed;
 use told::passed;
 use told::print;
 use told::say;
+use told::worded;
 ghost use Prim.Native.Nat.{_≤_};
 
 const TEXTS: [u8; 1033] = *b"\
@@ -110,16 +110,21 @@ pub fn sizes() {
 
 // The words of the tables on a pod in mode 4.
 fn data_words() {
+    let mut load = [0u16; 64];
     let mut five = [0u16; 64];
     let mut six = [0u16; 128];
     let mut seven = [0u16; 64];
     let pod = handed(true, 4, 0);
     label(b'4', 0, 0);
-    came(b'b', pod::data_in(pod, 1, &mut five, &mut six, &mut seven));
+    worded(
+        b'b',
+        pod::data_in(pod, 1, &mut load, &mut five, &mut six, &mut seven),
+        pod,
+    );
     label(b'5', 0, 0);
-    came(b'b', pod::data_out(pod, &five, &six, &seven));
+    worded(b'b', pod::data_out(pod, &five, &six, &seven), pod);
     label(b'6', 0, 0);
-    came(b'b', pod::status_word(pod));
+    worded(b'b', pod::status_word(pod), pod);
 }
 
 // The byte pipe of one.

@@ -10,6 +10,7 @@ use rules::Called;
 use rules::Exchange;
 use rules::Passed;
 use rules::Pod;
+use rules::Worded;
 use tables::Table;
 use tables::Transfer;
 
@@ -43,13 +44,14 @@ fn transfer(pod: Pod) {
     match transfer {
         Transfer::Idle => say(b'0'),
         Transfer::Address => say(b'1'),
-        Transfer::Load { table: t, n, k } => tell(b'2', table(t), n, k, 0),
-        Transfer::Read {
-            table: t,
-            n,
-            k,
-            start,
-        } => tell(b'3', table(t), n, k, start),
+        Transfer::Load { header, k } => tell(b'2', table(header.table), header.n as usize, k as usize, 0),
+        Transfer::Read { header, k, start } => tell(
+            b'3',
+            table(header.table),
+            header.n as usize,
+            k as usize,
+            start as usize,
+        ),
     }
 }
 
@@ -99,6 +101,14 @@ pub fn came(what: u8, called: Called) {
     say(b',');
     part(what, back);
     say(b'.');
+}
+
+// The same of a table word, which leaves all else of the pod.
+pub fn worded(what: u8, worded: Worded, pod: Pod) {
+    let answer = worded.answer;
+    let words = worded.words;
+    let pod = commands::with_words(pod, words);
+    came(what, Called { answer, pod });
 }
 
 // The same of a call of the byte pipe.

@@ -3,9 +3,11 @@ use blocks::Ring;
 use blocks::Store;
 use packets::Fields;
 use pipe::Input;
+use pipe::Pipe;
 use rules::Exchange;
 use rules::Pod;
 use tables::Given;
+use tables::Header;
 use tables::Places;
 use tables::Table;
 use tables::Transfer;
@@ -44,11 +46,11 @@ pub fn numbers(pod: Pod) -> [usize; 20] {
         fields.priorityremaining as usize,
         fields.memorylimit as usize,
         fields.memoryremaining as usize,
-        pipe.gathered,
-        pipe.timeouts as usize,
-        places.five,
-        places.six,
-        places.seven,
+        pipe.input.gathered,
+        pipe.input.timeouts as usize,
+        places.five as usize,
+        places.six as usize,
+        places.seven as usize,
         priority.oldest,
         priority.waiting,
         ordinary.oldest,
@@ -74,15 +76,17 @@ fn fields_of(n: [usize; 20]) -> Fields {
 // Initialised, with these numbers.
 fn pod_of(n: [usize; 20]) -> Pod {
     let fields = fields_of(n);
-    let pipe = Input {
-        bytes: [0; 8],
-        gathered: n[10],
-        timeouts: (n[11] % 0x100) as u8,
+    let pipe = Pipe {
+        input: Input {
+            bytes: [0; 8],
+            gathered: n[10],
+            timeouts: (n[11] % 0x100) as u8,
+        },
     };
     let places = Places {
-        five: n[12],
-        six: n[13],
-        seven: n[14],
+        five: (n[12] % 0x100) as u8,
+        six: (n[13] % 0x100) as u8,
+        seven: (n[14] % 0x100) as u8,
     };
     let priority = Ring {
         oldest: n[15],
@@ -122,7 +126,12 @@ pub fn with_values(i: usize, v: i32, j: usize, w: i32) -> Pod
     let mut params = pod.params;
     params.values[i] = v;
     params.values[j] = w;
-    commands::with_params(params, pod)
+    commands::with_params(pod, params)
+}
+
+// With the next state of the table port.
+pub fn with_port(pod: Pod, words: Words) -> Pod {
+    commands::with_words(pod, words)
 }
 
 // `O` is the priority store.
@@ -141,13 +150,16 @@ fn table_of(table: u8) -> Table {
     }
 }
 
-fn transfer_of(transfer: u8, t: u8, n: usize, k: usize, start: usize) -> Transfer {
-    let table = table_of(t);
+fn transfer_of(transfer: u8, t: u8, n: u8, k: u8, start: u8) -> Transfer {
+    let header = Header {
+        table: table_of(t),
+        n,
+    };
     match transfer {
         b'0' => Transfer::Idle,
         b'1' => Transfer::Address,
-        b'2' => Transfer::Load { table, n, k },
-        _ => Transfer::Read { table, n, k, start },
+        b'2' => Transfer::Load { header, k },
+        _ => Transfer::Read { header, k, start },
     }
 }
 
@@ -167,14 +179,13 @@ pub fn with_open(
     exchange: u8,
     transfer: u8,
     table: u8,
-    n: usize,
-    k: usize,
-    start: usize,
+    n: u8,
+    k: u8,
+    start: u8,
 ) -> Pod {
     let words = Words {
         error: false,
         transfer: transfer_of(transfer, table, n, k, start),
-        load: [0; 64],
         places: Places {
             five: 0,
             six: 0,
@@ -182,6 +193,6 @@ pub fn with_open(
         },
         given: Given::Nowhere,
     };
-    let pod = commands::with_words(words, handed(on, 0, 0));
-    commands::with_exchange(exchange_of(exchange), pod)
+    let pod = commands::with_words(handed(on, 0, 0), words);
+    commands::with_exchange(pod, exchange_of(exchange))
 }
