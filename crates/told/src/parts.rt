@@ -44,14 +44,20 @@ fn transfer(pod: Pod) {
     match transfer {
         Transfer::Idle => say(b'0'),
         Transfer::Address => say(b'1'),
-        Transfer::Load { header, k } => tell(b'2', table(header.table), header.n as usize, k as usize, 0),
-        Transfer::Read { header, k, start } => tell(
-            b'3',
-            table(header.table),
-            header.n as usize,
-            k as usize,
-            start as usize,
-        ),
+        Transfer::Load { header, k } => {
+            let t = header.table;
+            tell(b'2', table(t), header.n as usize, k as usize, 0)
+        }
+        Transfer::Read { header, k, start } => {
+            let t = header.table;
+            tell(
+                b'3',
+                table(t),
+                header.n as usize,
+                k as usize,
+                start as usize,
+            )
+        }
     }
 }
 
