@@ -83,6 +83,11 @@ high-first-parts (suc m) n x =
     ap (λ (k : ℕ). highFirst k x) (suc-add m n)
     ∙ ap₂ (λ (b : ℕ) (bs : List ℕ). b ∷ bs) (ap (λ (z : ℕ). z % 256) up) (high-first-parts m n x)
 
+-- one byte
+pub one-number : (s : List ℕ) (at : ℕ) → at < length s → numberAt s at 1 ≡ getD s at 0
+unfolding numberOf numberAt
+one-number s at h = rw (drop-cons s at 0 h) (omega arith)
+
 -- two bytes, each at its weight
 pub two-number : (s : List ℕ) (at : ℕ) → at + 2 ≤ length s → numberAt s at 2 ≡ getD s at 0 * 256 + getD s (at + 1) 0
 unfolding numberOf numberAt
