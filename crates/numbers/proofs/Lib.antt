@@ -1,3 +1,4 @@
 pub mod Digits
 pub mod Complement
 pub mod Stores
+pub mod ReadBack

@@ -51,8 +51,10 @@ pub fn put_four(s: &mut [u8], at: usize, x: u32)
     requires { ⌜ at + 4 ≤ length (now s) ⌝ }
     ensures { λ _. ⌜ now (s .exit) ≡ sets (now (s .entry)) at (highFirst 4 x) ⌝ }
 {
-    put_two(s, at, (x / 0x1_0000) as u16);
-    put_two(s, at + 2, (x % 0x1_0000) as u16);
+    s[at] = (x / 0x100_0000 % 0x100) as u8;
+    s[at + 1] = (x / 0x1_0000 % 0x100) as u8;
+    s[at + 2] = (x / 0x100 % 0x100) as u8;
+    s[at + 3] = (x % 0x100) as u8;
 }
 
 // The number whose 32 bits in two's complement are u.

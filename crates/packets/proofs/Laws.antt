@@ -18,6 +18,7 @@ use Rattle.packets.specs.declared.Command.the-variants.{Initialise, Stat
 use Rattle.packets.specs.declared.Parsed.{Parsed}
 use Rattle.packets.specs.declared.Parsed.the-variants.{Nothing, Error, Acknowledgement, Asked}
 use Rattle.numbers.specs.Numbers.{highFirst}
+use Rattle.numbers.specs.Layout.{laidOut}
 use Rattle.packets.specs.Commands.{fieldsBounded, findIn, listedIn, codeRow, isCode, commandPlace, commandRow, parsedSaid}
 use Rattle.packets.specs.Reading.{first, crcRight, packetRead}
 use Rattle.packets.specs.Answers.{withCrc, answerOf, errorAnswer, doneAnswer, statusBody, statusAnswer, valueBody, valueAnswer, dataAnswer, fieldBytes, bodyOf, commandBytes}
@@ -159,7 +160,7 @@ sent-is-read = sent
 
 -- a command's bytes are as many as the table says
 pub bytes-listed : (c : Command) → length (commandBytes c) ≡ commandRow c .bytes
-unfolding commandBytes bodyOf valueBody commandRow commandPlace answerOf withCrc fieldBytes highFirst
+unfolding commandBytes bodyOf valueBody commandRow commandPlace answerOf withCrc fieldBytes laidOut highFirst
 bytes-listed (Initialise f) = refl
 bytes-listed Status = refl
 bytes-listed (Update f) = refl

@@ -15,7 +15,9 @@ use Rattle.packets.specs.declared.Command.{Command}
 use Rattle.packets.specs.declared.Command.the-variants.{Initialise, Status, Update, Write, Read, Priority, Data, Shutdown}
 use Rattle.packets.specs.declared.Parsed.the-variants.{Acknowledgement, Asked}
 use Rattle.numbers.specs.Numbers.{highFirst, numberOf, numberAt, signedOf, unsignedOf}
-use Rattle.packets.specs.Commands.{fieldsIn, findIn, listedIn, codeRow, isCode, commandPlace, commandRow}
+use Rattle.numbers.specs.Layout.{laidOut}
+use Rattle.numbers.proofs.ReadBack.{read-back}
+use Rattle.packets.specs.Commands.{fieldParts, fieldsOf, fieldsIn, findIn, listedIn, codeRow, isCode, commandPlace, commandRow}
 use Rattle.packets.specs.Reading.{first, second, crcRight, acknowledges, packetRead}
 use Rattle.packets.specs.Answers.{withCrc, answerOf, errorAnswer, doneAnswer, valueBody, fieldBytes, bodyOf, commandBytes}
 use Rattle.packets.proofs.Sendable.{FieldsFit, Sendable}
@@ -64,26 +66,14 @@ error-taken f n h k =
     let right = closed-right (f ∷ 0x09 ∷ n ∷ []) in
     acknowledged (errorAnswer f n) (omega arith) right (simp (right, le-leb 0x90 f h, le-leb f 0x9F k))
 
--- fields that fit come back from the bytes that carry them
+-- fields that fit come back from the bytes that carry them: by the law of every table, and the time from its two parts
 fields-back : (code : ℕ) (f : Fields) → FieldsFit f → fieldsIn (answerOf code 0x01 (fieldBytes f)) ≡ f
-unfolding fieldsIn numberAt answerOf withCrc fieldBytes highFirst
+unfolding fieldsIn fieldsOf answerOf withCrc fieldBytes
 fields-back code f h =
-    let time : ℕ = f .seconds * 1024 + f .milliseconds in
-    let whole : numberOf (highFirst 4 time) ≡ time = number-back 4 time (omega arith) in
-    let seconds : numberOf (highFirst 4 time) / 1024 ≡ f .seconds = ap (λ (t : ℕ). t / 1024) whole ∙ omega arith in
-    let milliseconds : numberOf (highFirst 4 time) % 1024 ≡ f .milliseconds = ap (λ (t : ℕ). t % 1024) whole ∙ omega arith in
-    λ i.
-    record {
-      mode = f .mode;
-      flags = number-back 2 (f .flags) (h .flags) i;
-      seconds = seconds i;
-      milliseconds = milliseconds i;
-      prioritylimit = number-back 2 (f .prioritylimit) (h .prioritylimit) i;
-      priorityremaining = number-back 2 (f .priorityremaining) (h .priorityremaining) i;
-      memorylimit = number-back 4 (f .memorylimit) (h .memorylimit) i;
-      memoryremaining = number-back 4 (f .memoryremaining) (h .memoryremaining) i;
-      poll = number-back 2 (f .poll) (h .poll) i;
-    }
+    let seconds : (f .seconds * 1024 + f .milliseconds) / 1024 ≡ f .seconds = omega arith in
+    let milliseconds : (f .seconds * 1024 + f .milliseconds) % 1024 ≡ f .milliseconds = omega arith in
+    ap fieldsOf (read-back fieldParts f (code ∷ 0x01 ∷ []) (highFirst 2 (crcOf (code ∷ 0x01 ∷ laidOut fieldParts f))) (h .each))
+    ∙ simp (seconds, milliseconds)
 
 -- a command's bytes pass every check, if they have not the acknowledgement form and its row gives the command back
 passes : (c : Command) → 4 ≤ length (commandBytes c) → acknowledges (commandBytes c) ≡ false
@@ -95,7 +85,7 @@ passes c four form k s l e =
 
 -- each command that can be sent is read as it was sent
 pub sent : (c : Command) → Sendable c → packetRead (commandBytes c) ≡ Asked c
-unfolding commandBytes commandRow commandPlace bodyOf valueBody answerOf withCrc fieldBytes highFirst acknowledges isCode listedIn codeRow findIn numberAt
+unfolding commandBytes commandRow commandPlace bodyOf valueBody answerOf withCrc fieldBytes laidOut highFirst acknowledges isCode listedIn codeRow findIn numberAt
 sent (Initialise f) h = passes (Initialise f) (omega arith) refl refl refl refl (ap Initialise (fields-back 0x90 f h))
 sent Status h = passes Status (omega arith) refl refl refl refl refl
 sent (Update f) h = passes (Update f) (omega arith) refl refl refl refl (ap Update (fields-back 0x92 f h))

@@ -1,6 +1,6 @@
 -- The bytes of each answer, and those of each command.
 -- Assumes nothing.
-use Prim.Native.Nat.{ℕ, _+_, _*_}
+use Prim.Native.Nat.{ℕ}
 use mathlib.Core.Path.{_≡_}
 use mathlib.Core.List.{List, [], _∷_, _++_}
 use lib.IntN.{ℤ}
@@ -12,7 +12,8 @@ use Rattle.packets.specs.declared.Command.{Command}
 use Rattle.packets.specs.declared.Command.the-variants.{Initialise, Status, Update, Write, Read, Priority, Data, Shutdown}
 use Rattle.packets.specs.declared.Report.{Report}
 use Rattle.numbers.specs.Numbers.{highFirst, unsignedOf}
-use Rattle.packets.specs.Commands.{commandRow}
+use Rattle.numbers.specs.Layout.{laidOut}
+use Rattle.packets.specs.Commands.{fieldParts, commandRow}
 
 -- bytes with their CRC behind them, sent high byte first
 unfoldable pub withCrc : List ℕ → List ℕ
@@ -58,11 +59,7 @@ dataAnswer first block = answerOf first 0x01 block
 
 -- the fields from byte 2 on, as Initialise and Update carry them
 unfoldable pub fieldBytes : Fields → List ℕ
-fieldBytes f =
-    f .mode ∷ highFirst 2 (f .flags) ++ highFirst 4 (f .seconds * 1024 + f .milliseconds)
-    ++ highFirst 2 (f .prioritylimit) ++ highFirst 2 (f .priorityremaining)
-    ++ highFirst 4 (f .memorylimit) ++ highFirst 4 (f .memoryremaining)
-    ++ highFirst 2 (f .poll)
+fieldBytes f = laidOut fieldParts f
 
 -- what a command carries after its code and 0x01
 unfoldable pub bodyOf : Command → List ℕ

@@ -1,6 +1,6 @@
 -- The commands as document 01's packet table has them, and what a packet is taken as, in its numbers.
 -- Assumes nothing.
-use Prim.Native.Nat.{ℕ, _/_, _%_}
+use Prim.Native.Nat.{ℕ, _+_, _*_, _/_, _%_}
 use mathlib.Core.List.{List, [], _∷_, _++_, map}
 use mathlib.Core.Bool.{Bool, false, cond, _&&_, _||_}
 use lib.Dec.{leb, eqb}
@@ -12,22 +12,39 @@ use Rattle.packets.specs.declared.Command.the-variants.{Initialise, Stat
 use Rattle.packets.specs.declared.Parsed.{Parsed}
 use Rattle.packets.specs.declared.Parsed.the-variants.{Nothing, Error, Acknowledgement, Asked}
 use Rattle.numbers.specs.Numbers.{numberAt, signedOf}
+use Rattle.numbers.specs.Layout.{Part, part, bytesOf, numbersAt}
 
 -- 0x90 and 0x92 carry from byte 2: mode 1, flags 2, time 4 (upper 22 bits seconds, lower 10 milliseconds), priority limit 2,
 -- priority remaining 2, memory limit 4, memory remaining 4, poll 2
-unfoldable pub fieldsIn : List ℕ → Fields
-fieldsIn packet =
+abbrev pub fieldParts : List (Part Fields)
+fieldParts =
+    part (λ f. f .mode) 1
+    ∷ part (λ f. f .flags) 2
+    ∷ part (λ f. f .seconds * 1024 + f .milliseconds) 4
+    ∷ part (λ f. f .prioritylimit) 2
+    ∷ part (λ f. f .priorityremaining) 2
+    ∷ part (λ f. f .memorylimit) 4
+    ∷ part (λ f. f .memoryremaining) 4
+    ∷ part (λ f. f .poll) 2
+    ∷ []
+
+-- the fields that have these numbers, in the table's order
+unfoldable pub fieldsOf : List ℕ → Fields
+fieldsOf n =
     record {
-      mode = getD packet 2 0;
-      flags = numberAt packet 3 2;
-      seconds = numberAt packet 5 4 / 1024;
-      milliseconds = numberAt packet 5 4 % 1024;
-      prioritylimit = numberAt packet 9 2;
-      priorityremaining = numberAt packet 11 2;
-      memorylimit = numberAt packet 13 4;
-      memoryremaining = numberAt packet 17 4;
-      poll = numberAt packet 21 2;
+      mode = getD n 0 0;
+      flags = getD n 1 0;
+      seconds = getD n 2 0 / 1024;
+      milliseconds = getD n 2 0 % 1024;
+      prioritylimit = getD n 3 0;
+      priorityremaining = getD n 4 0;
+      memorylimit = getD n 5 0;
+      memoryremaining = getD n 6 0;
+      poll = getD n 7 0;
     }
+
+unfoldable pub fieldsIn : List ℕ → Fields
+fieldsIn packet = fieldsOf (numbersAt fieldParts packet 2)
 
 -- mode 0 to 3; milliseconds 0 to 999; each remaining at most its limit; poll 1 to 60,000; flags and seconds are free
 unfoldable pub fieldsBounded : Fields → Bool
@@ -52,9 +69,9 @@ commandLine k c t b a = record { code = k; command = c; kind = t; bytes = b; ans
 -- the packet table
 abbrev pub commandRows : List CommandRow
 commandRows =
-    commandLine 0x90 (λ p. Initialise (fieldsIn p)) 1 25 5
+    commandLine 0x90 (λ p. Initialise (fieldsIn p)) 1 (4 + bytesOf fieldParts) 5
     ∷ commandLine 0x91 (λ p. Status) 2 4 22
-    ∷ commandLine 0x92 (λ p. Update (fieldsIn p)) 1 25 5
+    ∷ commandLine 0x92 (λ p. Update (fieldsIn p)) 1 (4 + bytesOf fieldParts) 5
     ∷ commandLine 0x93 (λ p. Write (getD p 2 0) (signedOf 4 (numberAt p 3 4))) 1 9 5
     ∷ commandLine 0x94 (λ p. Read (getD p 2 0)) 2 5 9
     ∷ commandLine 0x95 (λ p. Priority) 2 4 260

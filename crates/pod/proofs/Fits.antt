@@ -22,11 +22,15 @@ use Rattle.rules.specs.State.{Lent, withStores, withTables, ringOf}
 use Rattle.rules.specs.Refusals.{tablesRow, stateRow, asleepRow}
 use Rattle.rules.specs.Calls.{roomed, packetRows, putRows, samplesRows}
 use Rattle.rules.proofs.Inside.{pod-in, ring-in}
-use Rattle.pod.specs.Port.{Ready, Sized}
+use Rattle.pod.specs.Port.{Ready}
 
 store-length : (s : Store) (l : List ℕ) → storeSized s l ≡ true → length l ≡ capacityOf s * 256
 unfolding storeSized
 store-length s l h = eqb-true _ _ h
+
+-- the three tables of their exact sizes
+abbrev pub Sized : Three → Type 0
+Sized t = (length (t .five) ≡ 64) × (length (t .six) ≡ 128) × (length (t .seven) ≡ 64)
 
 table-lengths : (t : Three) → tablesSized t ≡ true → Sized t
 unfolding tablesSized

@@ -9,7 +9,7 @@ use Rattle.rows.specs.Rows.{Said, gave, Out, out, given}
 use Rattle.blocks.specs.declared.Store.{Store}
 use Rattle.blocks.specs.declared.Store.the-variants.{Priority, Ordinary}
 use Rattle.blocks.specs.Stores.{capacityOf}
-use Rattle.tables.specs.Tables.{Three, starts}
+use Rattle.tables.specs.Tables.{starts}
 use Rattle.rules.specs.declared.Pod.{Pod}
 use Rattle.rules.specs.State.{Lent, withTables, ringOf, soundPod}
 use Rattle.rules.specs.Refusals.{bytes}
@@ -23,10 +23,6 @@ pub record Ready (r a b : List ℕ) (p : Pod) : Type 0 where
   pub priority : length a ≡ capacityOf Priority * 256
   pub ordinary : length b ≡ capacityOf Ordinary * 256
   pub sound : soundPod p ≡ true
-
--- and the three tables of theirs
-abbrev pub Sized : Three → Type 0
-Sized t = (length (t .five) ≡ 64) × (length (t .six) ≡ 128) × (length (t .seven) ≡ 64)
 
 -- a block that is shown waits in its store
 abbrev pub Waits : Said Meant → Pod → Type 0

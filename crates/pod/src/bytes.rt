@@ -10,17 +10,17 @@ use rules::Passed;
 use rules::Pod;
 use rules::Refusal;
 ghost use mathlib.Core.Path.{_≡_};
-ghost use mathlib.Core.List.{[], _∷_};
+ghost use mathlib.Core.List.{[]};
 ghost use Rattle.rows.specs.Rows.{refused, out, given};
 ghost use Rattle.pipe.specs.Input.{sentPacket};
-ghost use Rattle.rules.specs.Refusals.{refusalNumber, answerSaid, stateRow, asleepRow};
-ghost use Rattle.rules.specs.Families.{byte, timeout, inputMoved};
+ghost use Rattle.rules.specs.Refusals.{refusalNumber, answerSaid};
+ghost use Rattle.rules.specs.Families.{PipeCall, byte, timeout, inputMoved};
 ghost use Rattle.rules.specs.Calls.{pipeRows, passed, pipeCall};
 ghost use Rattle.pod.specs.Gates.{Gated};
 
 // The rows of every pipe call.
 fn pipe_gate(pod: Pod) -> Gate
-    ensures { λ r. ⌜ Gated r (stateRow pod ∷ asleepRow pod ∷ []) ⌝ }
+    ensures { λ r. ⌜ ((c : PipeCall) → Gated r (pipeRows c pod)) ⌝ }
 {
     if !sound(pod) {
         return Gate::Shut(Refusal::State);

@@ -20,7 +20,7 @@ pub use words::data_out;
 pub use words::status_word;
 
 // What the rows of a call say: none holds, or the first that holds.
-pub enum Gate {
+enum Gate {
     Open,
     Shut(Refusal),
 }

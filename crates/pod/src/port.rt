@@ -16,6 +16,7 @@ use rules::Refusal;
 use rules::Reply;
 ghost use mathlib.Core.Path.{_≡_};
 ghost use mathlib.Core.Bool.{cond};
+ghost use lib.ListN.{length};
 ghost use Rattle.rows.specs.Rows.{out, given};
 ghost use Rattle.packets.specs.Reading.{packetRead};
 ghost use Rattle.packets.specs.Answers.{Written};
@@ -25,13 +26,13 @@ ghost use Rattle.rules.specs.Refusals.{answerSaid};
 ghost use Rattle.rules.specs.Obey.{replySaid, shut, obeyOf};
 ghost use Rattle.rules.specs.Calls.{roomed, replied, packetHeard, replyBytes, packetRows, packetCall};
 ghost use Rattle.pod.specs.Gates.{Gated};
-ghost use Rattle.pod.specs.Port.{Ready, Waits, Answers, Sized};
+ghost use Rattle.pod.specs.Port.{Ready, Waits, Answers};
 
 // The answer's length, the next state, and whether the tables go to their starts.
-pub struct Replied {
-    pub count: usize,
-    pub pod: Pod,
-    pub restart: bool,
+struct Replied {
+    count: usize,
+    pod: Pod,
+    restart: bool,
 }
 
 // The bytes of a reply; their count.
@@ -115,7 +116,7 @@ fn hear<'a>(
 
 // The tables go to their starts, or stay.
 fn restart(yes: bool, five: &mut [u16], six: &mut [u16], seven: &mut [u16])
-    requires { ⌜ Sized (three (now five) (now six) (now seven)) ⌝ }
+    requires { ⌜ (length (now five) ≡ 64) × (length (now six) ≡ 128) × (length (now seven) ≡ 64) ⌝ }
     ensures { λ _. ⌜ three (now (five .exit)) (now (six .exit)) (now (seven .exit)) ≡ cond yes starts (three (now (five .entry)) (now (six .entry)) (now (seven .entry))) ⌝ }
 {
     if !yes {

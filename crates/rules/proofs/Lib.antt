@@ -6,7 +6,7 @@ pub mod Histories
 pub mod Untouched
 pub mod Flow
 pub mod Frames
-pub mod TablesOnly
+pub mod NoOther
 pub mod MessageError
 pub mod Inside
 pub mod Fits

@@ -5,7 +5,7 @@ use native.Mathlib.Nat.{add-zero, zero-add, add-assoc}
 use native.Mathlib.Omega.{arith}
 use mathlib.Core.Path.{_≡_, refl, sym, ap, _∙_, subst}
 use mathlib.Core.Bool.{true, false, not, cond}
-use mathlib.Core.List.{List, [], _∷_}
+use mathlib.Core.List.{List, [], _∷_, _++_}
 use lib.Dec.{ltb, eqb}
 use lib.ListN.{length}
 use borrow.Author.Tests.{lt-ltb, eq-eqb, ne-eqb, ltb-true, ltb-false}
@@ -166,17 +166,19 @@ module _ (w : World) (x : ℕ) (h : Header) (at : ℕ) (cs : List Call) (r : Rea
       ≡ stepped (gave (reads (readWord h at (wordsOf (h .table) (now .lent .tables)) (readsIn cs)))) [] (withWords (withTransfer (readNext h (readsIn cs) at) (now .pod .words)) (now .pod)) (now .lent)
   one-read = word-fit now (open-still .fit) dataOut ∙ reading h at behind now (readsIn cs) open-still
 
+  one-more : final w (word (command x) ∷ (cs ++ (word dataOut ∷ []))) .pod .words .transfer ≡ readNext h (readsIn cs) at
+  unfolding final
+  one-more =
+      ap (λ (v : World). v .pod .words .transfer) (final-then (next w (word (command x))) cs (word dataOut ∷ []))
+      ∙ ap (λ (y : Stepped). y .world .pod .words .transfer) one-read
+
 pub read-whole : ReadWhole
 read-whole w x h at cs r =
     ap (λ (y : Stepped). y .told) (one-read w x h at cs r)
     ∙ ap (λ (k : ℕ). told (gave (reads k)) []) (word-shown h at (now w x h at cs r .lent .tables) (readsIn cs))
 
 pub read-ends : ReadEnds
-unfolding final
-read-ends w x h at cs r =
-    ap (λ (v : World). v .pod .words .transfer) (final-then (next w (word (command x))) cs (word dataOut ∷ []))
-    ∙ ap (λ (y : Stepped). y .world .pod .words .transfer) (one-read w x h at cs r)
-    ∙ next-ends h (readsIn cs) at (r .short)
+read-ends w x h at cs r = one-more w x h at cs r ∙ next-ends h (readsIn cs) at (r .short)
 
 pub read-moves : ReadMoves
 read-moves w x h at cs r = (open-still w x h at cs r .moved, open-still w x h at cs r .given)

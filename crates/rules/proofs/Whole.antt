@@ -6,7 +6,7 @@ use Rattle.rules.proofs.Sound.{kept-sound}
 use Rattle.rules.proofs.LoadWhole.{load-whole}
 use Rattle.rules.proofs.LoadCut.{load-cut}
 use Rattle.rules.proofs.ReadWhole.{read-whole, read-ends, read-moves}
-use Rattle.rules.proofs.TablesOnly.{tables-only}
+use Rattle.rules.proofs.NoOther.{tables-only}
 use Rattle.rules.proofs.MessageError.{message-error, error-is-history, status-word-shows}
 use Rattle.rules.proofs.PortOnly.{port-only, places-only}
 use Rattle.rules.proofs.Checked.{packet-answered, opens-exactly, damage, damage-answered, error-unchanged}

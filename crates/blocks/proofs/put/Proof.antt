@@ -16,15 +16,6 @@ placed c =
     subst⁻¹ (λ (i : ℕ). i < start .args .capacity) (c .place .ensures)
     (place-in _ _ (bounds _ _ (start .pre .0 .0) .0) _ (omega arith))
 
-place-requires : tie.Need-place-requires
-place-requires c κs = (bounds _ _ (c .before .before .pre .0 .0) .0, search needs)
-
-mul-copy : tie.Need-mul-copy
-mul-copy c = omega (arith, placed (c .before))
-
-copy-requires : tie.Need-copy-requires
-copy-requires c κs = omega (arith, placed (c .before))
-
 returns : tie.Need-returns
 unfolding putRing putStore
 returns c =
@@ -36,4 +27,7 @@ returns c =
 
 pub put-spec : {M : Type 1} → statement M
 put-spec =
-    tie.close (tie.spec (λ c. search needs) place-requires mul-copy copy-requires (λ c. search needs) returns)
+    tie.close (tie.spec
+    (λ c. search needs) (λ c κs. (bounds _ _ (c .before .before .pre .0 .0) .0, search needs))
+    (λ c. omega (arith, placed (c .before))) (λ c κs. omega (arith, placed (c .before))) (λ c. search needs)
+    returns)

@@ -13,12 +13,6 @@ few : (s : Store) → capacityOf s ≤ 128
 few Priority = omega arith
 few Ordinary = omega arith
 
-mul-result : tie.Need-mul-result
-mul-result c = search (needs, few (c .before .before .args .which))
-
-returns : tie.Need-returns
-unfolding storeSized
-returns c = cc
-
 pub sized-spec : {M : Type 1} → statement M
-sized-spec = tie.close (tie.spec (λ c κs. search needs) mul-result returns)
+unfolding storeSized
+sized-spec = tie.close (tie.spec (λ c κs. search needs) (λ c. search (needs, few (c .before .before .args .which))) (λ c. cc))

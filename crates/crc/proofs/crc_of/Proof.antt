@@ -26,35 +26,10 @@ Inv-loop2 bytes s i₀ c₀ i c = (i ≤ length bytes) × (crcFrom c (drop i byt
 abbrev μ-loop2 : tie.MeasureT-loop2
 μ-loop2 bytes s i₀ c₀ i c = length bytes - i
 
-loop-holds : tie.Need-loop-holds Inv-loop μ-loop Inv-loop2 μ-loop2
-unfolding crcOf
-loop-holds c = (search needs, omega arith, rw started)
-
-sub-loop : tie.Need-sub-loop Inv-loop μ-loop Inv-loop2 μ-loop2
-sub-loop c = search needs
-
-add-word-of : tie.Need-add-word-of Inv-loop μ-loop Inv-loop2 μ-loop2
-add-word-of c = search needs
-
-sub-word-of : tie.Need-sub-word-of Inv-loop μ-loop Inv-loop2 μ-loop2
-sub-word-of c = search needs
-
-part-word-of-start : tie.Need-part-word-of-start Inv-loop μ-loop Inv-loop2 μ-loop2
-part-word-of-start c = search needs
-
-part-word-of-end : tie.Need-part-word-of-end Inv-loop μ-loop Inv-loop2 μ-loop2
-part-word-of-end c = search needs
-
 word-of-requires : tie.Need-word-of-requires Inv-loop μ-loop Inv-loop2 μ-loop2
 word-of-requires c κs =
     let eight : (c .before .before .loop .i + 8) - c .before .before .loop .i ≡ 8 = omega arith in
     rw (eight, length-take, length-drop) (min-eq-left (search needs))
-
-add-i : tie.Need-add-i Inv-loop μ-loop Inv-loop2 μ-loop2
-add-i c = search needs
-
-loop-less : tie.Need-loop-less Inv-loop μ-loop Inv-loop2 μ-loop2
-loop-less c = search needs
 
 loop-again : tie.Need-loop-again Inv-loop μ-loop Inv-loop2 μ-loop2
 loop-again c =
@@ -65,24 +40,9 @@ loop-again c =
     let told = eight-more (at .s) (c .word-of .result) (at .inv .1) ∙ ap (crcFrom (fold (at .s))) word in
     (search needs, eight-fits (at .s) (c .word-of .result) (at .inv .1) (search needs), ap (λ (x : ℕ). crcFrom x (drop (at .i + 8) bytes)) told ∙ sym (more 8 (fold (at .s)) bytes (at .i)) ∙ at .inv .2)
 
-fold-of-requires : tie.Need-fold-of-requires Inv-loop μ-loop Inv-loop2 μ-loop2
-fold-of-requires c κs = search needs
-
 loop2-holds : tie.Need-loop2-holds Inv-loop μ-loop Inv-loop2 μ-loop2
 unfolding fold
 loop2-holds c = (search needs, rw (c .fold-of .ensures) (c .before .before .loop .inv .2))
-
-shared-slice-read-one : tie.Need-shared-slice-read-one Inv-loop μ-loop Inv-loop2 μ-loop2
-shared-slice-read-one c = search needs
-
-one-requires : tie.Need-one-requires Inv-loop μ-loop Inv-loop2 μ-loop2
-one-requires c κs = search needs
-
-add-i-2 : tie.Need-add-i-2 Inv-loop μ-loop Inv-loop2 μ-loop2
-add-i-2 c = search needs
-
-loop2-less : tie.Need-loop2-less Inv-loop μ-loop Inv-loop2 μ-loop2
-loop2-less c = search needs
 
 loop2-again : tie.Need-loop2-again Inv-loop μ-loop Inv-loop2 μ-loop2
 loop2-again c =
@@ -99,28 +59,10 @@ returns c =
     rw (drop-of-length-le, from-none) at (c .before .loop2 .inv .1)
 
 pub crc-of-spec : {M : Type 1} → statement M
+unfolding crcOf
 crc-of-spec =
-    tie.close
-    (tie.spec
-    Inv-loop
-    μ-loop
-    Inv-loop2
-    μ-loop2
-    loop-holds
-    sub-loop
-    add-word-of
-    sub-word-of
-    part-word-of-start
-    part-word-of-end
-    word-of-requires
-    add-i
-    loop-less
-    loop-again
-    fold-of-requires
-    loop2-holds
-    shared-slice-read-one
-    one-requires
-    add-i-2
-    loop2-less
-    loop2-again
-    returns)
+    tie.close (tie.spec
+    Inv-loop μ-loop Inv-loop2 μ-loop2 (λ c. (search needs, omega arith, rw started)) (λ c. search needs)
+    (λ c. search needs) (λ c. search needs) (λ c. search needs) (λ c. search needs) word-of-requires
+    (λ c. search needs) (λ c. search needs) loop-again (λ c κs. search needs) loop2-holds (λ c. search needs)
+    (λ c κs. search needs) (λ c. search needs) (λ c. search needs) loop2-again returns)

@@ -6,16 +6,10 @@ use borrow.Author.Needs.{needs}
 use Rattle.edges.proofs.try_one.Statement.{statement}
 use Rattle.edges.proofs.try_one.Tie as tie
 
-slice-aggregate-crc-of : tie.Need-slice-aggregate-crc-of
-slice-aggregate-crc-of c = simp length-take (omega arith)
-
-slice-aggregate-show : tie.Need-slice-aggregate-show
-slice-aggregate-show c = simp (length-take, length-set) (omega arith)
-
 pub try-one-spec : {M : Type 1} → statement M
 try-one-spec =
     tie.close (tie.spec
     (λ c. search needs) (λ c. search needs) (λ c. search needs) (λ c. search needs) (λ c. search needs)
-    slice-aggregate-crc-of (λ c κs. search needs) (λ c. search needs) (λ c. search needs)
-    (λ c. search needs) (λ c. search needs) (λ c. search needs) (λ c. search needs) slice-aggregate-show
-    (λ c κs. search needs) (λ c. search needs))
+    (λ c. simp length-take (omega arith)) (λ c κs. search needs) (λ c. search needs) (λ c. search needs)
+    (λ c. search needs) (λ c. search needs) (λ c. search needs) (λ c. search needs)
+    (λ c. simp (length-take, length-set) (omega arith)) (λ c κs. search needs) (λ c. search needs))

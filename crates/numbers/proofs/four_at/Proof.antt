@@ -1,7 +1,7 @@
 -- `numbers::four_at` meets its contract: two bytes, and two behind them.
 -- Assumes nothing.
 use native.Mathlib.Omega.{arith}
-use Rattle.numbers.proofs.Digits.{number-parts}
+use Rattle.numbers.proofs.Digits.{four-number}
 use borrow.Author.Needs.{needs}
 use Rattle.numbers.proofs.four_at.Statement.{statement}
 use Rattle.numbers.proofs.four_at.Tie as tie
@@ -9,7 +9,7 @@ use Rattle.numbers.proofs.four_at.Tie as tie
 returns : tie.Need-returns
 returns c =
     let a = c .before .before .before .args in
-    cc (number-parts (a .s .now) (a .at) 2 2 (omega arith))
+    cc (four-number (a .s .now) (a .at) (omega arith))
 
 pub four-at-spec : {M : Type 1} → statement M
 four-at-spec =

@@ -48,12 +48,6 @@ cast-result-2 c =
 cast-result-3 : tie.Need-cast-result-3
 cast-result-3 c = rw (plain c) (tt, record { fits = unsigned-below 3 (c .before .args .v) (c .before .fits .v .sfits) })
 
-returns : tie.Need-returns
-returns c = rw (summed-back c)
-
-returns-2 : tie.Need-returns-2
-returns-2 c = rw (plain c)
-
 pub unsigned-spec : {M : Type 1} → statement M
 unsigned-spec =
-    tie.close (tie.spec cast-result add-result cast-result-2 cast-result-3 returns returns-2)
+    tie.close (tie.spec cast-result add-result cast-result-2 cast-result-3 (λ c. rw (summed-back c)) (λ c. rw (plain c)))

@@ -8,9 +8,6 @@ use borrow.Author.Needs.{needs}
 use Rattle.crc.proofs.narrow.one.Statement.{statement}
 use Rattle.crc.proofs.narrow.one.Tie as tie
 
-high-requires : tie.Need-high-requires
-high-requires c κs = search needs
-
 cast-y : tie.Need-cast-y
 cast-y c =
     let x = bitXor (c .high .result) (c .before .args .b) in
@@ -21,4 +18,4 @@ returns : tie.Need-returns
 returns c = rw (c .high .ensures) (by-shifts (c .before .args .c) (c .before .args .b) (omega arith) (omega arith))
 
 pub one-spec : {M : Type 1} → statement M
-one-spec = tie.close (tie.spec high-requires cast-y returns)
+one-spec = tie.close (tie.spec (λ c κs. search needs) cast-y returns)

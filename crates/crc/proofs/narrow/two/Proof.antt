@@ -5,8 +5,5 @@ use Rattle.crc.proofs.Fold.{two-more}
 use Rattle.crc.proofs.narrow.two.Statement.{statement}
 use Rattle.crc.proofs.narrow.two.Tie as tie
 
-returns : tie.Need-returns
-returns c = two-more (c .args .c) (c .args .w) (omega arith) (omega arith)
-
 pub two-spec : {M : Type 1} → statement M
-two-spec = tie.close (tie.spec returns)
+two-spec = tie.close (tie.spec (λ c. two-more (c .args .c) (c .args .w) (omega arith) (omega arith)))

@@ -5,20 +5,8 @@ use borrow.Author.Needs.{needs}
 use Rattle.crc.proofs.wide.fold_of.Statement.{statement}
 use Rattle.crc.proofs.wide.fold_of.Tie as tie
 
-cast-four : tie.Need-cast-four
-cast-four c = search needs
-
-four-requires : tie.Need-four-requires
-four-requires c κs = search needs
-
-cast-four-2 : tie.Need-cast-four-2
-cast-four-2 c = search needs
-
-four-requires-2 : tie.Need-four-requires-2
-four-requires-2 c κs = search needs
-
 returns : tie.Need-returns
 returns c = rw (c .four2 .ensures, c .before .four .ensures) (in-two 4 4 0 (c .before .before .args .s))
 
 pub fold-of-spec : {M : Type 1} → statement M
-fold-of-spec = tie.close (tie.spec cast-four four-requires cast-four-2 four-requires-2 returns)
+fold-of-spec = tie.close (tie.spec (λ c. search needs) (λ c κs. search needs) (λ c. search needs) (λ c κs. search needs) returns)

@@ -5,9 +5,6 @@ use Rattle.packets.specs.Commands.{fieldsBounded}
 use Rattle.packets.proofs.reading.bounded.Statement.{statement}
 use Rattle.packets.proofs.reading.bounded.Tie as tie
 
-returns : tie.Need-returns
-unfolding fieldsBounded
-returns c = refl
-
 pub bounded-spec : {M : Type 1} → statement M
-bounded-spec = tie.close (tie.spec returns)
+unfolding fieldsBounded
+bounded-spec = tie.close (tie.spec (λ c. refl))

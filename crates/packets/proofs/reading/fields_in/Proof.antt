@@ -1,13 +1,18 @@
 -- `packets::reading::fields_in` meets its contract: each field from its place.
 -- Assumes nothing.
-use Rattle.packets.specs.Commands.{fieldsIn}
+use native.Mathlib.Omega.{arith}
+use Rattle.numbers.specs.Layout.{numbersAt}
+use Rattle.numbers.proofs.Digits.{one-number}
+use Rattle.packets.specs.Commands.{fieldsOf, fieldsIn}
 use borrow.Author.Needs.{needs}
 use Rattle.packets.proofs.reading.fields_in.Statement.{statement}
 use Rattle.packets.proofs.reading.fields_in.Tie as tie
 
 returns : tie.Need-returns
-unfolding fieldsIn
-returns c = cc
+unfolding fieldsIn fieldsOf numbersAt
+returns c =
+    let start = c .before .before .before .before .before .before .before .before .before in
+    cc (one-number (start .args .packet .now) 2 (omega arith))
 
 pub fields-in-spec : {M : Type 1} → statement M
 fields-in-spec =

@@ -6,14 +6,9 @@ use borrow.Author.Needs.{needs}
 use Rattle.packets.proofs.reading.is_acknowledgement.Statement.{statement}
 use Rattle.packets.proofs.reading.is_acknowledgement.Tie as tie
 
-returns : tie.Need-returns
-unfolding acknowledges
-returns c = simp (ne-eqb _ _ (c .if1 .taken))
-
-returns-2 : tie.Need-returns-2
-unfolding acknowledges
-returns-2 c = simp (eq-eqb _ _ (c .before .before .before .before .if1 .left)) (cc)
-
 pub is-acknowledgement-spec : {M : Type 1} → statement M
+unfolding acknowledges
 is-acknowledgement-spec =
-    tie.close (tie.spec returns (λ c. search needs) (λ c. search needs) (λ c. search needs) (λ c κs. search needs) returns-2)
+    tie.close (tie.spec
+    (λ c. simp (ne-eqb _ _ (c .if1 .taken))) (λ c. search needs) (λ c. search needs) (λ c. search needs)
+    (λ c κs. search needs) (λ c. simp (eq-eqb _ _ (c .before .before .before .before .if1 .left)) (cc)))

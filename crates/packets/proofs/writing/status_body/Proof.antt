@@ -18,12 +18,9 @@ copy-requires c κs =
     let start = c .before .before .before .before .before .before .before .before .before .before .before .before .before .before .before .before .before .before .before .before .before .before .before .before in
     omega (arith, eight start)
 
-returns : tie.Need-returns
-unfolding statusBody highFirst
-returns c = cc
-
 pub status-body-spec : {M : Type 1} → statement M
+unfolding statusBody highFirst
 status-body-spec =
     tie.close (tie.spec
     (λ c κs. search needs) (λ c κs. search needs) (λ c κs. search needs) (λ c κs. search needs)
-    (λ c κs. search needs) (λ c. search needs) copy-requires (λ c. search needs) returns)
+    (λ c κs. search needs) (λ c. search needs) copy-requires (λ c. search needs) (λ c. cc))

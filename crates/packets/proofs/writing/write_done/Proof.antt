@@ -5,9 +5,6 @@ use borrow.Author.Needs.{needs}
 use Rattle.packets.proofs.writing.write_done.Statement.{statement}
 use Rattle.packets.proofs.writing.write_done.Tie as tie
 
-returns : tie.Need-returns
-unfolding doneAnswer
-returns c = c .before .before .short .ensures
-
 pub write-done-spec : {M : Type 1} → statement M
-write-done-spec = tie.close (tie.spec (λ c κs. search needs) (λ c. search needs) returns)
+unfolding doneAnswer
+write-done-spec = tie.close (tie.spec (λ c κs. search needs) (λ c. search needs) (λ c. c .before .before .short .ensures))

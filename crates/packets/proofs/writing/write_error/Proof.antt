@@ -5,9 +5,6 @@ use borrow.Author.Needs.{needs}
 use Rattle.packets.proofs.writing.write_error.Statement.{statement}
 use Rattle.packets.proofs.writing.write_error.Tie as tie
 
-returns : tie.Need-returns
-unfolding errorAnswer
-returns c = c .before .before .short .ensures
-
 pub write-error-spec : {M : Type 1} → statement M
-write-error-spec = tie.close (tie.spec (λ c κs. search needs) (λ c. search needs) returns)
+unfolding errorAnswer
+write-error-spec = tie.close (tie.spec (λ c κs. search needs) (λ c. search needs) (λ c. c .before .before .short .ensures))

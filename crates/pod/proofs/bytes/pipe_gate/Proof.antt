@@ -12,6 +12,6 @@ pipe-gate-spec =
     tie.close
     (tie.spec
     (λ c κs. search needs)
-    (λ c. here (as-row (c .before .sound .ensures) (c .if1 .taken)))
-    (λ c. let e1 = c .before .before in after (as-row (e1 .before .sound .ensures) (e1 .if1 .left)) (here (c .if2 .taken)))
-    (λ c. let e1 = c .before .before in past (as-row (e1 .before .sound .ensures) (e1 .if1 .left)) (past (c .if2 .left) none)))
+    (λ c k. here (as-row (c .before .sound .ensures) (c .if1 .taken)))
+    (λ c k. let e1 = c .before .before in after (as-row (e1 .before .sound .ensures) (e1 .if1 .left)) (here (c .if2 .taken)))
+    (λ c k. let e1 = c .before .before in past (as-row (e1 .before .sound .ensures) (e1 .if1 .left)) (past (c .if2 .left) none)))
