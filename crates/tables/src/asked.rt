@@ -19,7 +19,7 @@ fn odd_ones(word: u16) -> bool
     count % 2 == 1
 }
 
-pub fn parts(word: u16) -> Parts
+fn parts(word: u16) -> Parts
     ensures { λ r. ⌜ r ≡ partsOf word ⌝ }
 {
     let odd = odd_ones(word);

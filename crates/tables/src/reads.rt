@@ -11,7 +11,6 @@ use crate::sizes::data_count;
 use crate::sizes::number;
 use crate::sizes::within;
 ghost use mathlib.Core.Path.{_≡_};
-ghost use mathlib.Core.Bool.{true};
 ghost use Prim.Native.Nat.{_+_, _<_, _≤_};
 ghost use lib.ListN.{length};
 ghost use Rattle.tables.specs.Tables.{tableSize, three, wordsOf};
