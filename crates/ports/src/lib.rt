@@ -10,6 +10,7 @@ use rules::Called;
 use rules::Framed;
 use rules::Passed;
 use rules::Pod;
+use rules::Worded;
 ghost use Prim.Native.Nat.{_+_, _≤_};
 
 // The state after a call, and where the output stands.
@@ -58,15 +59,9 @@ fn shown(pod: Pod, framed: Framed, out: &mut [u8; 65536], at: usize) -> Spoken
 {
     let answer = framed.answer;
     let frames = framed.frames;
-    if let Answer::Done = answer {
-        return Spoken {
-            pod,
-            at: put_frames(out, at, frames),
-        };
-    }
     Spoken {
         pod,
-        at: put_answer(out, at, b'A', answer),
+        at: put_frames(out, at, answer, frames),
     }
 }
 
@@ -78,16 +73,19 @@ fn piped(passed: Passed, letter: u8, out: &mut [u8; 65536], at: usize) -> Spoken
     let pod = passed.pod;
     let answer = passed.answer;
     let sent = passed.sent;
-    if let Answer::Done = answer {
-        return Spoken {
-            pod,
-            at: put_sent(out, at, letter, sent),
-        };
-    }
     Spoken {
         pod,
-        at: put_answer(out, at, letter, answer),
+        at: put_sent(out, at, letter, answer, sent),
     }
+}
+
+// A table word leaves all of the pod but its port.
+fn spoken(pod: Pod, worded: Worded) -> Called {
+    let answer = worded.answer;
+    let words = worded.words;
+    let mut next = pod;
+    next.words = words;
+    Called { answer, pod: next }
 }
 
 // Every call but the samples' and the pipe's; any other line calls nothing.
@@ -96,6 +94,7 @@ fn call(
     pod: Pod,
     bytes: &[u8; 65536],
     room: &mut [u8; 260],
+    load: &mut [u16; 64],
     priority: &mut [u8; 4096],
     ordinary: &mut [u8; 32768],
     five: &mut [u16; 64],
@@ -104,19 +103,19 @@ fn call(
 ) -> Called {
     match line {
         Line::Packet(n) => {
-            let read = lines::front(bytes, n);
+            let read = items::front(bytes, n);
             pod::packet(pod, read, room, priority, ordinary, five, six, seven)
         }
         Line::Deadline => pod::deadline(pod),
         Line::Put(which, n) => match which {
-            Store::Priority => pod::put(pod, which, priority, lines::front(bytes, n)),
-            Store::Ordinary => pod::put(pod, which, ordinary, lines::front(bytes, n)),
+            Store::Priority => pod::put(pod, which, priority, items::front(bytes, n)),
+            Store::Ordinary => pod::put(pod, which, ordinary, items::front(bytes, n)),
         },
-        Line::Command(word) => pod::command_word(pod, word, five, six, seven),
-        Line::Data(word) => pod::data_in(pod, word, five, six, seven),
-        Line::Read => pod::data_out(pod, five, six, seven),
-        Line::Status => pod::status_word(pod),
-        Line::Power => pod::power_on(five, six, seven),
+        Line::Command(word) => spoken(pod, pod::command_word(pod, word, five, six, seven)),
+        Line::Data(word) => spoken(pod, pod::data_in(pod, word, load, five, six, seven)),
+        Line::Read => spoken(pod, pod::data_out(pod, five, six, seven)),
+        Line::Status => spoken(pod, pod::status_word(pod)),
+        Line::Power => pod::power_on(pod, five, six, seven),
         _ => Called {
             answer: Answer::Done,
             pod,
@@ -131,6 +130,7 @@ pub fn answer(
     bytes: &[u8; 65536],
     words: &[u16; 65536],
     room: &mut [u8; 260],
+    load: &mut [u16; 64],
     priority: &mut [u8; 4096],
     ordinary: &mut [u8; 32768],
     five: &mut [u16; 64],
@@ -144,13 +144,15 @@ pub fn answer(
 {
     match line {
         Line::Samples(check, n) => {
-            let set = lines::front_words(words, n);
+            let set = items::front_words(words, n);
             shown(pod, pod::samples(pod, check, set), out, at)
         }
         Line::Byte(byte) => piped(pod::pipe_byte(pod, byte), b'I', out, at),
         Line::Timeout => piped(pod::pipe_timeout(pod), b'T', out, at),
         _ => {
-            let called = call(line, pod, bytes, room, priority, ordinary, five, six, seven);
+            let called = call(
+                line, pod, bytes, room, load, priority, ordinary, five, six, seven,
+            );
             said(line, called, room, out, at)
         }
     }

@@ -1,7 +1,6 @@
 // What a line asks.
 use crate::Port;
 use lines::Found;
-use lines::Items;
 use lines::Line;
 ghost use mathlib.Core.Path.{_≡_};
 ghost use Prim.Native.Nat.{_-_, _≤_};
@@ -28,9 +27,9 @@ fn text<'a>(found: Found, piece: &'a [u8], line: &'a [u8]) -> &'a [u8]
 {
     match found {
         Found::Here(from, end) => between(piece, from, end),
-        Found::Held(n) => lines::front(line, n),
-        Found::Long => lines::front(line, 0),
-        Found::More => lines::front(line, 0),
+        Found::Held(n) => items::front(line, n),
+        Found::Long => items::front(line, 0),
+        Found::More => items::front(line, 0),
     }
 }
 
@@ -45,14 +44,7 @@ pub fn asked<'a>(
 ) -> Line {
     let read = text(found, piece, line);
     match which {
-        Port::Packets => packet_of(lines::packet_line(read, bytes)),
+        Port::Packets => lines::packet_line(read, bytes),
         Port::Every => lines::read_line(read, bytes, words),
-    }
-}
-
-fn packet_of(items: Items) -> Line {
-    match items {
-        Items::Good(n) => Line::Packet(n),
-        Items::Bad => Line::Other,
     }
 }

@@ -17,7 +17,7 @@ const ENOUGH: usize = 64752;
 
 // Writes what is gathered.
 fn flush(out: &[u8; 65536], at: usize) -> bool {
-    io::write_all(STDOUT_FILENO, lines::front(out, at))
+    io::write_all(STDOUT_FILENO, items::front(out, at))
 }
 
 // A piece of which nothing is answered yet, and nothing gathered.
@@ -74,7 +74,7 @@ fn turn(desk: Desk, piece: &mut [u8; 65536], line: &mut [u8; 196606], out: &[u8;
     let at = desk.at;
     let left = desk.left - 1;
     if at <= ENOUGH {
-        let part = lines::front(piece, have);
+        let part = items::front(piece, have);
         if from < part.len() {
             return next(part, line, Cursor { from, held }, at, left);
         }
@@ -102,7 +102,7 @@ fn turn(desk: Desk, piece: &mut [u8; 65536], line: &mut [u8; 196606], out: &[u8;
 
 // The pod, fresh from power.
 fn fresh(five: &mut [u16; 64], six: &mut [u16; 128], seven: &mut [u16; 64]) -> Pod {
-    let called = pod::power_on(five, six, seven);
+    let called = pod::power_on(commands::fresh_pod(), five, six, seven);
     let pod = called.pod;
     pod
 }
@@ -116,6 +116,7 @@ pub fn run(
     bytes: &mut [u8; 65536],
     words: &mut [u16; 65536],
     room: &mut [u8; 260],
+    load: &mut [u16; 64],
     priority: &mut [u8; 4096],
     ordinary: &mut [u8; 32768],
     five: &mut [u16; 64],
@@ -138,6 +139,7 @@ pub fn run(
             bytes,
             words,
             room,
+            load,
             priority,
             ordinary,
             five,
