@@ -19,7 +19,7 @@ use Rattle.rules.specs.Demands.{BlocksAreHistory}
 use Rattle.rules.proofs.Happens.{putting}
 use Rattle.rules.proofs.Eventful.{Eventful, quiet, anew, initialised, slept, updated, wrote, began, closed, acknowledged, shelved, spoken, moved}
 use Rattle.rules.proofs.Histories.{Keeps, history, powered-fresh}
-use Rattle.rules.proofs.Stores.{of-both, of-changed, same-is}
+use Rattle.rules.proofs.Stores.{of-both, of-changed, of-changed-two, same-is}
 use Rattle.rules.proofs.Inside.{pod-in, ring-in}
 use Rattle.rules.proofs.Fits.{PutFits, put-fits}
 use Rattle.rules.proofs.Settling.{Settles, keeps, drops, settles}
@@ -37,15 +37,13 @@ none-wait s l = rw (of-both s emptyRing) (none-waiting (capacityOf s) emptyRing 
 blocks-put : (s r : Store) (b : List ℕ) (w : World) → Clear (rowsOf w (put r b))
     → waitingIn s (putting r b w .world) ≡ cond (sameStore s r) (waitingIn s w ++ (b ∷ [])) (waitingIn s w)
 blocks-put s r b w k =
-    rw (
-      of-changed (λ t. putRing (ringOf t (w .pod))) s r (w .pod .priority) (w .pod .ordinary),
-      of-changed (λ t. putStore (capacityOf t) (ringOf t (w .pod)) (storeIn t (w .lent)) b) s r (w .lent .priority) (w .lent .ordinary),
-    )
-    (split (sameStore s r)
+    of-changed-two (λ t q l. blocksIn (capacityOf t) q l) (λ t. putRing (ringOf t (w .pod)))
+    (λ t. putStore (capacityOf t) (ringOf t (w .pod)) (storeIn t (w .lent)) b) s r (w .pod .priority) (w .pod .ordinary) (w .lent .priority) (w .lent .ordinary)
+    ∙ split (sameStore s r)
     (λ e.
     let fits : PutFits s b w = rw (← (same-is s r e)) at (put-fits r b w k) in
     rw e (put-appends (capacityOf s) (ringOf s (w .pod)) (storeIn s (w .lent)) b (ring-in (pod-in (w .pod) (fits .sound)) s) (fits .free) (fits .store) (fits .block)))
-    (λ e. rw e))
+    (λ e. rw e)
 
 -- an acknowledgement takes the first away of the store that it acknowledges
 blocks-settled : (s : Store) {p q : Pod} {first : ℕ} {one : Bool} {x : Exchange} → Settles p first one x q → (l : List ℕ)

@@ -22,7 +22,7 @@ use Rattle.packets.specs.declared.Command.the-variants.{Initialise, Status, Upd
 use Rattle.packets.specs.declared.Parsed.the-variants.{Error, Asked}
 use Rattle.packets.specs.Commands.{commandRow, commandPlace}
 use Rattle.packets.specs.Reading.{packetRead, crcRight}
-use Rattle.packets.specs.Answers.{withCrc, answerOf, doneAnswer, statusAnswer, valueAnswer, dataAnswer}
+use Rattle.packets.specs.Answers.{withCrc, answerOf, errorAnswer, doneAnswer, statusAnswer, valueAnswer, dataAnswer}
 use Rattle.packets.proofs.Laws.{answer-right, done-length, status-length, value-length, data-length}
 use Rattle.params.proofs.Laws.{missing-length}
 use Rattle.tables.specs.Tables.{tablesSized}
@@ -34,7 +34,7 @@ use Rattle.rules.specs.Calls.{meantBody, replyBytes, spokenBytes, answer
 use Rattle.rules.specs.World.{World, withPod, packet, answering, Stepped, rowsOf, isRefused}
 use Rattle.rules.specs.History.{succeeded, errored}
 use Rattle.rules.specs.Checks.{Succeeds, Answers, damaged}
-use Rattle.rules.specs.Demands.{PacketAnswered, OpensExactly, Damage, ErrorUnchanged}
+use Rattle.rules.specs.Demands.{PacketAnswered, OpensExactly, Damage, DamageAnswered, ErrorUnchanged}
 use Rattle.rules.proofs.Happens.{Happens, by-rows, by-empty, by-damage, by-acknowledgement, by-check, by-command, checks-shut, obeying, happens}
 use Rattle.rules.proofs.Succeeded.{error-fails, one-errs-not, room-at}
 use Rattle.rules.proofs.Eventful.{sound-at, command-succeeds}
@@ -209,6 +209,19 @@ damage w b room h = on (happens w (packet b room)) (damaged-read b h)
     on (by-acknowledgement b room first one k e) r = cc
     on (by-check b room c n k e f) r = cc
     on (by-command b room c k e q) r = cc
+
+-- and is answered so
+pub damage-answered : DamageAnswered
+damage-answered w b room h a = on (happens w (packet b room)) (damaged-read b h) (answered-clear w (packet b room) a)
+  where
+    on : {s : Stepped} → Happens w (packet b room) s → packetRead b ≡ Error (getD b 0 0) 0x01 → Clear (rowsOf w (packet b room))
+        → s .told ≡ answering room (errorAnswer (getD b 0 0) 0x01)
+    on (by-rows c n f) r k = never-both f k
+    on (by-empty b room k e) r q = cc
+    on (by-damage b room first n k e) r q = cc
+    on (by-acknowledgement b room first one k e) r q = cc
+    on (by-check b room c n k e f) r q = cc
+    on (by-command b room c k e q) r p = cc
 
 -- a packet that gets an error answer changes nothing but an open exchange
 pub error-unchanged : ErrorUnchanged

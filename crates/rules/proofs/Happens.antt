@@ -2,10 +2,10 @@
 -- about one world goes by these cases and never sees `step`, the rows or the checks again.
 -- Assumes nothing.
 use Prim.Native.Nat.{ℕ}
-use mathlib.Core.Path.{_≡_, refl, sym}
+use mathlib.Core.Path.{_≡_, refl}
 use mathlib.Core.Bool.{Bool}
 use mathlib.Core.List.{List, []}
-use Rattle.rows.specs.Rows.{Row, First, Clear, refused, gave, Said, Out, out, given}
+use Rattle.rows.specs.Rows.{First, Clear, refused, gave, given}
 use Rattle.rows.proofs.Laws.{ran-case}
 use Rattle.blocks.specs.declared.Store.{Store}
 use Rattle.packets.specs.declared.Command.{Command}
@@ -18,12 +18,12 @@ use Rattle.packets.specs.Answers.{errorAnswer}
 use Rattle.tables.specs.Tables.{starts}
 use Rattle.pipe.specs.Input.{sentBytes, sentPacket}
 use Rattle.rules.specs.declared.Pod.{Pod}
-use Rattle.rules.specs.State.{Lent, freshPod, storeIn, withTables, deskIn}
-use Rattle.rules.specs.Obey.{Meant, shut, checksOf, doneBy, obeyOf, acknowledgedOf}
+use Rattle.rules.specs.State.{freshPod, storeIn, withTables, deskIn}
+use Rattle.rules.specs.Obey.{shut, checksOf, doneBy, obeyOf, acknowledgedOf}
 use Rattle.rules.specs.Refusals.{done}
 use Rattle.rules.specs.Families.{WordCall, wordOf, PipeCall, pipeOf}
 use Rattle.rules.specs.Calls.{powerRows, powerCall, roomed, replied, packetHeard, replyBytes, spokenBytes, written, answered, packetRows, packetCall, deadlineRows, deadlineCall, putRows, shelved, putCall, wordRows, worded, wordCall, pipeRows, passed, pipeCall, samplesRows, framed, samplesCall}
-use Rattle.rules.specs.World.{World, withPod, Call, power, packet, deadline, put, word, pipe, samples, roomOf, Stepped, stepped, overTables, overRoom, overNothing, overStore, overDesk, overSent, overFrames, step, rowsOf}
+use Rattle.rules.specs.World.{World, Call, power, packet, deadline, put, word, pipe, samples, roomOf, Stepped, stepped, overTables, overRoom, overNothing, overStore, overDesk, overSent, overFrames, step, rowsOf}
 use Rattle.rules.proofs.Stores.{store-same}
 
 -- ---- the effects, by their definitions

@@ -30,7 +30,7 @@ use Rattle.params.specs.Rules.{stored}
 use Rattle.rules.specs.declared.Exchange.{Exchange}
 use Rattle.rules.specs.declared.Exchange.the-variants.{Closed, Status, Read, Receive}
 use Rattle.rules.specs.declared.Pod.{Pod}
-use Rattle.rules.specs.State.{Lent, withInitialised, withFields, withParams, withExchange, withWords, withTables, withDesk, freshPod, restful, soundPod}
+use Rattle.rules.specs.State.{Lent, withInitialised, withFields, withParams, withExchange, withWords, withTables, withDesk, ringOf, remainingOf, freshPod, restful, soundPod}
 use Rattle.rules.specs.Obey.{Meant, success, report, value, block, shut, initialisedPod, checksOf, doneBy, obeyOf, matches, dropFrom, settled, acknowledgedOf, reportOf}
 use Rattle.rules.specs.Calls.{powerCall, Spoken, silent, says, replied, packetHeard, meantBody, replyBytes, spokenBytes, answered, packetCall, deadlineCall, putCall, pipeCall, samplesCall}
 use Rattle.rules.specs.World.{World, world, Call, Stepped, overTables, overRoom, overNothing, overStore, overSent, overFrames, step}
@@ -52,8 +52,7 @@ hold u l w = world (holding u (w .pod)) (withLoad l (w .lent))
 
 drop-words : (s : Store) (v : Words) (p : Pod) → dropFrom s (withWords v p) ≡ withWords v (dropFrom s p)
 unfolding dropFrom
-drop-words Priority v p = split (eqb (p .priority .waiting) 0 || eqb (p .fields .priorityremaining) 0) (λ e. rw e) (λ e. rw e)
-drop-words Ordinary v p = split (eqb (p .ordinary .waiting) 0 || eqb (p .fields .memoryremaining) 0) (λ e. rw e) (λ e. rw e)
+drop-words s v p = split (eqb (ringOf s p .waiting) 0 || eqb (remainingOf s (p .fields)) 0) (λ e. rw e) (λ e. rw e)
 
 settled-words : (x : Exchange) (v : Words) (p : Pod) → settled x (withWords v p) ≡ withWords v (settled x p)
 unfolding settled
@@ -75,8 +74,7 @@ module _ (v u : Words) (l m : List ℕ) (p : Pod) (t : Lent) where
   meant-same success = refl
   meant-same report = refl
   meant-same (value id z) = refl
-  meant-same (block Priority) = refl
-  meant-same (block Ordinary) = refl
+  meant-same (block s) = refl
 
   spoken-same : (x : Spoken) → spokenBytes x (withWords v p) (withLoad l t) ≡ spokenBytes x (withWords u p) (withLoad m t)
   unfolding spokenBytes replyBytes
@@ -129,7 +127,8 @@ module _ (h : Header) (k j : ℕ) (along : k < h .n) (before : j < h .n) (l m : 
         → overRoom (given (answered (replied first (given (doneBy c (a .lent) (shut (a .pod))))) room)) a
         ≡ held (Load h k) l (overRoom (given (answered (replied first (given (doneBy c (b .lent) (shut (b .pod))))) room)) b)
     unfolding doneBy initialisedPod freshPod startWords closeOf
-    obeyed-same (asked.Initialise f) first = telling-same (says first (gave success)) Idle Idle refl (initialisedPod f) (withTables starts (w .lent))
+    obeyed-same (asked.Initialise f) first =
+        telling-same (says first _) Idle Idle refl (doneBy (asked.Initialise f) (w .lent) (shut (w .pod)) .pod) (withTables starts (w .lent))
     obeyed-same asked.Status first = telling-same (says first _) (Load h k) (Load h j) refl (withExchange Status (w .pod)) (w .lent)
     obeyed-same (asked.Update f) first = telling-same (says first _) (Load h k) (Load h j) refl (withFields f (shut (w .pod))) (w .lent)
     obeyed-same (asked.Write id v) first =
@@ -162,8 +161,7 @@ module _ (h : Header) (k j : ℕ) (along : k < h .n) (before : j < h .n) (l m : 
   step-same (sends d room) =
       ran-two (λ o q. overRoom o a ≡ held (Load h k) l (overRoom q b)) (rw sound-same) (λ n. refl) (λ q. heard-same room (packetRead d))
   step-same waits = ran-two (λ o q. overNothing o a ≡ held (Load h k) l (overNothing q b)) (rw sound-same) (λ n. refl) (λ q. refl)
-  step-same (puts Priority d) = ran-two (λ o q. overStore Priority o a ≡ held (Load h k) l (overStore Priority q b)) (rw sound-same) (λ n. refl) (λ q. refl)
-  step-same (puts Ordinary d) = ran-two (λ o q. overStore Ordinary o a ≡ held (Load h k) l (overStore Ordinary q b)) (rw sound-same) (λ n. refl) (λ q. refl)
+  step-same (puts s d) = ran-two (λ o q. overStore s o a ≡ held (Load h k) l (overStore s q b)) (rw sound-same) (λ n. refl) (λ q. refl)
   step-same (pipes c) = ran-two (λ o q. overSent o a ≡ held (Load h k) l (overSent q b)) (rw sound-same) (λ n. refl) (λ q. refl)
   step-same (shows i xs) = ran-two (λ o q. overFrames o a ≡ held (Load h k) l (overFrames q b)) (rw sound-same) (λ n. refl) (λ q. refl)
 

@@ -17,8 +17,9 @@ use Rattle.params.proofs.Laws.{start-sound as params-start}
 use Rattle.tables.specs.declared.Transfer.{Transfer}
 use Rattle.tables.specs.declared.Transfer.the-variants.{Idle, Address, Load, Read as Reads}
 use Rattle.tables.specs.declared.Words.{Words}
+use Rattle.tables.specs.declared.Given.{Given}
 use Rattle.tables.specs.Bounds.{soundWords}
-use Rattle.tables.specs.Port.{isOpen, startWords}
+use Rattle.tables.specs.Port.{isOpen, withGiven, startWords}
 use Rattle.tables.proofs.Kept.{start-sound as words-start}
 use Rattle.pipe.specs.declared.Pipe.{Pipe}
 use Rattle.pipe.specs.Pipe.{freshPipe, soundPipe}
@@ -154,13 +155,14 @@ module _ {p : Pod} (h : PodIn p) where
   in-sleep none still =
       record { priority = h .priority; ordinary = h .ordinary; params = h .params; fields = h .fields; pipe = h .pipe; words = h .words; rest = rw (none, still) }
 
--- as from power: initialised or not, with any fields within their bounds
-pub anew-in : (b : Bool) (f : Fields) → fieldsBounded f ≡ true → PodIn (withFields f (withInitialised b freshPod))
-unfolding freshPod restful startWords freshPipe soundPipe
-anew-in b f k =
+-- as from power: initialised or not, with any fields within their bounds and any given address
+pub anew-in : (b : Bool) (f : Fields) (g : Given) → fieldsBounded f ≡ true
+    → PodIn (withWords (withGiven g (freshPod .words)) (withFields f (withInitialised b freshPod)))
+unfolding freshPod restful startWords freshPipe soundPipe soundWords
+anew-in b f g k =
     record { priority = empty-sound 16 (omega arith); ordinary = empty-sound 128 (omega arith); params = params-start; fields = k; pipe = fresh-sound; words = words-start; rest = or-true b }
 
 -- the fresh pod is within its bounds
 pub fresh-in : PodIn freshPod
 unfolding freshPod freshFields fieldsBounded
-fresh-in = anew-in false freshFields refl
+fresh-in = anew-in false freshFields _ refl

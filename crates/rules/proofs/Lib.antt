@@ -6,7 +6,7 @@ pub mod Histories
 pub mod Untouched
 pub mod Flow
 pub mod Frames
-pub mod TablesOnly
+pub mod NoOther
 pub mod MessageError
 pub mod Inside
 pub mod Fits
@@ -15,7 +15,7 @@ pub mod Holds
 pub mod Written
 pub mod Blocks
 pub mod Replied
-pub mod Shows
+pub mod Asked
 pub mod Sound
 pub mod Answered
 pub mod Checked
@@ -34,4 +34,5 @@ pub mod Holding
 pub mod Gathering
 pub mod LoadWhole
 pub mod LoadCut
+pub mod PortOnly
 pub mod Whole

@@ -12,7 +12,7 @@ use Rattle.rows.proofs.Bool.{never}
 use Rattle.tables.specs.declared.Header.{Header}
 use Rattle.tables.specs.declared.Transfer.{Transfer}
 use Rattle.tables.specs.declared.Transfer.the-variants.{Load}
-use Rattle.tables.specs.Command.{orderHeard}
+use Rattle.orders.specs.Command.{orderHeard}
 use Rattle.tables.specs.Port.{Desk, closeOf, wrongWay, commandOf, wordGiven, dataOutOf}
 use Rattle.rules.specs.Families.{WordCall, command, dataIn, dataOut, status, wordOf}
 use Rattle.rules.specs.World.{World, Call, word, Stepped, step, next, final, run}

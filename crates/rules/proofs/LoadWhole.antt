@@ -11,7 +11,7 @@ use lib.Seq.{sets, sets-eq, length-sets, take-at, take-all}
 use Rattle.rows.proofs.Bool.{split}
 use Rattle.tables.specs.declared.Header.{Header}
 use Rattle.tables.specs.declared.Transfer.the-variants.{Idle}
-use Rattle.tables.specs.declared.Order.the-variants.{Writing}
+use Rattle.orders.specs.declared.Order.the-variants.{Writing}
 use Rattle.tables.specs.Tables.{wordsOf}
 use Rattle.tables.specs.Bounds.{soundTransfer}
 use Rattle.tables.specs.Port.{Desk, Tabled, tabled, withTransfer, commandOf, orderObeyed, tablesAfter, loadRight, loadJudged, wordTaken, dataInOf}
@@ -76,12 +76,8 @@ last-word h k xs y z o count last =
 
 module _ (w : World) (x : ℕ) (h : Header) (cs : List Call) (r : Loads w x h cs) where
   is-opened : next w (word (command x)) ≡ opened h w
-  unfolding wordOf orderObeyed tablesAfter
-  is-opened =
-      ap (λ (s : Stepped). s .world) (word-fit w (r .fit) (command x))
-      ∙ ap (λ (s : Tabled). laid s w)
-      (ap (λ (on : Bool). commandOf on x (tabled (w .pod .words) (deskIn (w .lent)))) (r .awake)
-      ∙ obeyed (Writing (h .table) (h .n)) true x (tabled (w .pod .words) (deskIn (w .lent))) (r .asked))
+  unfolding wordOf commandOf orderObeyed tablesAfter
+  is-opened = ap (λ (s : Stepped). s .world) (word-fit w (r .fit) (command x)) ∙ rw (r .awake, r .asked)
 
   is-open : Open h (opened h w)
   is-open =

@@ -10,12 +10,12 @@ use Rattle.rows.specs.Rows.{gave}
 use Rattle.rows.proofs.Bool.{split, never, not-true}
 use Rattle.tables.specs.declared.Header.{Header}
 use Rattle.tables.specs.declared.Words.{Words}
-use Rattle.tables.specs.declared.Order.{Order}
-use Rattle.tables.specs.declared.Order.the-variants.{Other, Stop, Restart, Next, Writing, Reading}
+use Rattle.orders.specs.declared.Order.{Order}
+use Rattle.orders.specs.declared.Order.the-variants.{Other, Stop, Restart, Next, Writing, Reading}
 use Rattle.tables.specs.declared.Transfer.{Transfer}
 use Rattle.tables.specs.declared.Transfer.the-variants.{Idle, Address, Load, Read}
 use Rattle.tables.specs.Tables.{readPlace}
-use Rattle.tables.specs.Command.{orderHeard}
+use Rattle.orders.specs.Command.{orderHeard}
 use Rattle.tables.specs.Port.{Desk, Tabled, tabled, fits, beginsAt, isOpen, startWords, closeOf, wrongWay, readOpenedAt, readOpened, restarted, orderObeyed, commandOf, loadRight, loadJudged, loadOf, wordTaken, dataInOf, wordGiven, dataOutOf, statusOf}
 use Rattle.rules.specs.declared.Pod.{Pod}
 use Rattle.rules.specs.State.{freshPod, deskIn}

@@ -5,7 +5,7 @@ use mathlib.Core.Path.{_≡_, refl, sym, _∙_}
 use mathlib.Core.Bool.{false, _&&_}
 use mathlib.Core.List.{List, [], _∷_}
 use lib.Dec.{eqb}
-use lib.ListN.{length, replicate}
+use lib.ListN.{length}
 use borrow.Author.Tests.{eqb-true}
 use Rattle.rows.specs.Rows.{Clear, none, past as clear}
 use Rattle.rows.proofs.Bool.{not-false, and-left, and-right}
@@ -19,13 +19,13 @@ use Rattle.packets.specs.Answers.{answerOf}
 use Rattle.tables.specs.Tables.{starts, tablesSized}
 use Rattle.tables.specs.Port.{startWords}
 use Rattle.tables.proofs.Lengths.{starts-sized}
-use Rattle.rules.specs.State.{Lent, freshPod, withTables}
+use Rattle.rules.specs.State.{freshPod, withTables}
 use Rattle.rules.specs.Obey.{initialisedPod, checksOf, doneBy}
 use Rattle.rules.specs.Refusals.{allRow, stateRow}
 use Rattle.rules.specs.Calls.{roomed, packetRows, meantBody, replyBytes, spokenBytes, answered}
 use Rattle.rules.specs.World.{World, world, power, packet, answering, Stepped, step, rowsOf, powered}
 use Rattle.rules.specs.Pairs.{Accepts, past}
-use Rattle.rules.specs.Demands.{NoTrace, AsFromPower, NoTracePast}
+use Rattle.rules.specs.Demands.{NoTrace, blank, AsFromPower, NoTracePast}
 use Rattle.rules.proofs.Inside.{in-pod, fresh-in}
 use Rattle.rules.proofs.Happens.{Happens, by-rows, by-power, happens}
 use Rattle.rules.proofs.Accepted.{accepted, obeys}
@@ -85,9 +85,6 @@ no-trace f b room v w kept x y cs =
     same-run v w (packet b room) cs (begun-twins f b room v w (begins f b room v x) (begins f b room w y))
 
 -- a pod just powered is fresh, with what is lent as it came
-abbrev blank : Lent
-blank = record { priority = replicate 4096 0; ordinary = replicate 32768 0; tables = starts; load = replicate 64 0 }
-
 just-by : {s : Stepped} → Happens (world freshPod blank) power s → s .world ≡ world freshPod blank
 just-by (by-rows c n f) = refl
 just-by (by-power k) = refl

@@ -15,7 +15,7 @@ use Rattle.packets.specs.declared.Fields.{Fields}
 use Rattle.packets.specs.declared.Command.{Command}
 use Rattle.packets.specs.declared.Command.the-variants as asked
 use Rattle.rules.specs.declared.Exchange.the-variants.{Closed}
-use Rattle.tables.specs.declared.Table.the-variants.{Five, Seven}
+use Rattle.orders.specs.declared.Table.the-variants.{Five, Seven}
 use Rattle.rows.specs.Rows.{Said, refused, ran}
 use Rattle.crc.specs.Crc.{poly, leaving, bitIn, bits, bitsIn, crcFrom, crcOf}
 use Rattle.packets.specs.Answers.{withCrc, answerOf, errorAnswer, statusBody, valueBody, fieldBytes, bodyOf, commandBytes}
@@ -26,7 +26,7 @@ use Rattle.packets.specs.Reading.{crcRight, acknowledges, packetRead}
 use Rattle.params.specs.Rules.{isId, inRows, soundParams, startParams, writeAllowed, filter, missingIds, missingOf}
 use Rattle.blocks.specs.Stores.{storeSized, soundRing, placeBehind, blockAt, blocksFrom, blocksIn, oldestOf, putRing, putStore, droppedRing}
 use Rattle.tables.specs.Bounds.{soundPlaces, soundTransfer, soundWords}
-use Rattle.tables.specs.Command.{oddOnes, partsOf, orderOf, orderHeard}
+use Rattle.orders.specs.Command.{oddOnes, partsOf, orderOf, orderHeard}
 use Rattle.tables.specs.Port.{header, startWords, closeOf, readOpenedAt, readOpened, restarted, orderObeyed, tablesAfter, commandOf, wrongWay, loadRight, storedIn, loadJudged, loadOf, wordTaken, dataInOf, readWord, readNext, wordGiven, dataOutOf, statusOf}
 use Rattle.tables.specs.Tables.{Three, three, listed, startTable, tablesSized}
 use Rattle.pipe.specs.Input.{heldIn, sentPacket, sentBytes, emptyInput, freshInput, gathers, pipeByte, countUp, pipeTimeout, soundInput, gatheringOf}

@@ -5,7 +5,7 @@ use native.Mathlib.Nat.{add-zero, zero-add, add-assoc}
 use native.Mathlib.Omega.{arith}
 use mathlib.Core.Path.{_≡_, refl, sym, ap, _∙_, subst}
 use mathlib.Core.Bool.{true, false, not, cond}
-use mathlib.Core.List.{List, [], _∷_}
+use mathlib.Core.List.{List, [], _∷_, _++_}
 use lib.Dec.{ltb, eqb}
 use lib.ListN.{length}
 use borrow.Author.Tests.{lt-ltb, eq-eqb, ne-eqb, ltb-true, ltb-false}
@@ -15,11 +15,11 @@ use Rattle.tables.specs.declared.Header.{Header}
 use Rattle.tables.specs.declared.Places.{Places}
 use Rattle.tables.specs.declared.Words.{Words}
 use Rattle.tables.specs.declared.Answered.{Answered}
-use Rattle.tables.specs.declared.Order.the-variants.{Reading}
+use Rattle.orders.specs.declared.Order.the-variants.{Reading}
 use Rattle.tables.specs.declared.Given.the-variants.{Nowhere}
 use Rattle.tables.specs.declared.Transfer.the-variants.{Idle, Read}
 use Rattle.tables.specs.Tables.{Three, tablesSized, wordsOf, withReadPlace}
-use Rattle.tables.specs.Port.{Desk, Tabled, tabled, withTransfer, withPlaces, withGiven, dataCount, closeOf, readOpened, orderObeyed, tablesAfter, commandOf, readWord, readNext, wordGiven, statusOf}
+use Rattle.tables.specs.Port.{Desk, Tabled, tabled, withTransfer, withPlaces, withGiven, dataCount, closeOf, readOpened, readOpenedAt, orderObeyed, tablesAfter, commandOf, readWord, readNext, wordGiven, statusOf}
 use Rattle.tables.proofs.Obeying.{obeyed, given-by}
 use Rattle.tables.proofs.Reading.{read-taken, read-first, read-second, read-third, read-data}
 use Rattle.rules.specs.State.{soundPod, deskIn, withWords, withDesk}
@@ -140,17 +140,14 @@ module _ (w : World) (x : ℕ) (h : Header) (at : ℕ) (cs : List Call) (r : Rea
   abbrev opened : Words
   opened = withGiven Nowhere (withPlaces behind (withTransfer (Read h 0 at) (closeOf (w .pod .words))))
 
-  is-opened : commandOf (w .pod .initialised) x (tabled (w .pod .words) (deskIn (w .lent))) ≡ tabled opened (deskIn (w .lent))
-  unfolding orderObeyed readOpened tablesAfter closeOf
-  is-opened =
-      rw (r .awake)
-      (obeyed (Reading (h .table) (h .n)) true x (tabled (w .pod .words) (deskIn (w .lent))) (r .asked)
-      ∙ rw (← r .begun) (ap (λ (v : Words). tabled v (deskIn (w .lent))) (read-taken h at (closeOf (w .pod .words)) (r .within))))
+  is-opened : wording (command x) w ≡ stepped (gave done) [] (withWords opened (w .pod)) (w .lent)
+  unfolding wordOf commandOf orderObeyed readOpened readOpenedAt tablesAfter closeOf
+  is-opened = rw (r .awake, r .asked, ← r .begun, r .within)
 
   begins : Along h at behind (next w (word (command x))) 0
-  unfolding wordOf closeOf
+  unfolding closeOf
   begins =
-      let so = word-fit w (r .fit) (command x) ∙ ap (λ (y : Tabled). stepped (gave done) [] (withWords (y .words) (w .pod)) (withDesk (y .desk) (w .lent))) is-opened in
+      let so = word-fit w (r .fit) (command x) ∙ is-opened in
       let port = ap (λ (y : Stepped). y .world .pod .words) so in
       stays h at behind (next w (word (command x))) w 0 (r .fit) (sound-next w (word (command x)) (r .fit .sound)) (ap (λ (y : Stepped). deskIn (y .world .lent)) so)
       (ap (λ (v : Words). v .transfer) port) (ap (λ (v : Words). v .places) port) (ap (λ (v : Words). v .given) port)
@@ -169,17 +166,19 @@ module _ (w : World) (x : ℕ) (h : Header) (at : ℕ) (cs : List Call) (r : Rea
       ≡ stepped (gave (reads (readWord h at (wordsOf (h .table) (now .lent .tables)) (readsIn cs)))) [] (withWords (withTransfer (readNext h (readsIn cs) at) (now .pod .words)) (now .pod)) (now .lent)
   one-read = word-fit now (open-still .fit) dataOut ∙ reading h at behind now (readsIn cs) open-still
 
+  one-more : final w (word (command x) ∷ (cs ++ (word dataOut ∷ []))) .pod .words .transfer ≡ readNext h (readsIn cs) at
+  unfolding final
+  one-more =
+      ap (λ (v : World). v .pod .words .transfer) (final-then (next w (word (command x))) cs (word dataOut ∷ []))
+      ∙ ap (λ (y : Stepped). y .world .pod .words .transfer) one-read
+
 pub read-whole : ReadWhole
 read-whole w x h at cs r =
     ap (λ (y : Stepped). y .told) (one-read w x h at cs r)
     ∙ ap (λ (k : ℕ). told (gave (reads k)) []) (word-shown h at (now w x h at cs r .lent .tables) (readsIn cs))
 
 pub read-ends : ReadEnds
-unfolding final
-read-ends w x h at cs r =
-    ap (λ (v : World). v .pod .words .transfer) (final-then (next w (word (command x))) cs (word dataOut ∷ []))
-    ∙ ap (λ (y : Stepped). y .world .pod .words .transfer) (one-read w x h at cs r)
-    ∙ next-ends h (readsIn cs) at (r .short)
+read-ends w x h at cs r = one-more w x h at cs r ∙ next-ends h (readsIn cs) at (r .short)
 
 pub read-moves : ReadMoves
 read-moves w x h at cs r = (open-still w x h at cs r .moved, open-still w x h at cs r .given)

@@ -13,7 +13,7 @@ use Rattle.packets.specs.Reading.{crcRight, acknowledges, packetRead}
 use Rattle.params.specs.Rules.{isId, inRows, soundParams, startParams, filter, missingIds, missingOf}
 use Rattle.blocks.specs.Stores.{storeSized, soundRing, placeBehind, blockAt, blocksFrom, blocksIn, oldestOf, putRing, putStore, droppedRing}
 use Rattle.tables.specs.Bounds.{soundPlaces, soundTransfer, soundWords}
-use Rattle.tables.specs.Command.{oddOnes, partsOf, orderOf, orderHeard}
+use Rattle.orders.specs.Command.{oddOnes, partsOf, orderOf, orderHeard}
 use Rattle.tables.specs.Port.{startWords, closeOf, readOpenedAt, readOpened, restarted, orderObeyed, tablesAfter, commandOf, wrongWay, loadRight, storedIn, loadJudged, loadOf, wordTaken, dataInOf, readWord, readNext, wordGiven, dataOutOf, statusOf}
 use Rattle.tables.specs.Tables.{listed, startTable, tablesSized}
 use Rattle.pipe.specs.Input.{heldIn, sentPacket, sentBytes, emptyInput, freshInput, gathers, pipeByte, countUp, pipeTimeout, soundInput, gatheringOf}

@@ -6,9 +6,9 @@ use mathlib.Core.Path.{_≡_, refl, ap, ap₂}
 use mathlib.Core.Bool.{Bool, true, false}
 use mathlib.Core.List.{List, [], _∷_}
 use lib.ListN.{length}
-use Rattle.rows.specs.Rows.{First, here, out, given}
+use Rattle.rows.specs.Rows.{First, here, out, given, ran}
 use Rattle.rows.proofs.Bool.{split, never, not-false}
-use Rattle.rows.proofs.Laws.{clear-head, clear-rest, ran-first, ran-two, ran-stop}
+use Rattle.rows.proofs.Laws.{clear-head, clear-rest, ran-first, ran-two}
 use Rattle.blocks.specs.declared.Store.{Store}
 use Rattle.blocks.specs.declared.Store.the-variants.{Priority, Ordinary}
 use Rattle.blocks.specs.declared.Ring.{Ring}
@@ -29,7 +29,7 @@ use Rattle.rules.specs.declared.Exchange.the-variants.{Closed}
 use Rattle.rules.specs.declared.Pod.{Pod}
 use Rattle.rules.specs.State.{withParams, withRing, withWords, freshPod, soundPod, Lent, storeIn, withTables, deskIn}
 use Rattle.rules.specs.Obey.{shut, initialisedPod, checksOf, doneBy, obeyOf, matches, settled, acknowledgedOf}
-use Rattle.rules.specs.Refusals.{storeRow, stateRow, blockRow, asleepRow, fullRow}
+use Rattle.rules.specs.Refusals.{storeRow, stateRow, blockRow, asleepRow}
 use Rattle.rules.specs.Families.{WordCall, command, dataIn, dataOut, status, wordLent, wordOf}
 use Rattle.rules.specs.Calls.{powerCall, replied, packetHeard, meantBody, replyBytes, spokenBytes, answered, packetCall, deadlineCall, shelved, putCall, wordCall, pipeCall, samplesCall}
 use Rattle.rules.specs.World.{World, world, Call, power, packet, deadline, put, word, pipe, samples, Told, Stepped, overTables, overRoom, overNothing, overStore, overDesk, overSent, overFrames, step, next, Point, tells}
@@ -91,6 +91,12 @@ acknowledged-asleep : (first : ℕ) (one : Bool) (p : Pod) → p .exchange ≡ C
 unfolding acknowledgedOf settled
 acknowledged-asleep first one p e = rw e (split (matches first one Closed) (λ m. rw m) (λ m. rw m))
 
+-- a put is refused before its store is found full
+put-asleep : (s : Store) (b x : List ℕ) (p : Pod) → p .initialised ≡ false
+    → putCall s b x p ≡ ran (storeRow s x ∷ stateRow p ∷ blockRow b ∷ asleepRow p ∷ []) p x (shelved s b x p)
+unfolding putCall ran
+put-asleep s b x p off = rw off
+
 module _ (p : Pod) (q : Params) (a o : Ring) (l m : Lent) (sizes : sizesIn l ≡ sizesIn m) (off : p .initialised ≡ false)
     (first : soundPod p ≡ true) (second : soundPod (disguise q a o p) ≡ true) where
   abbrev r : Pod
@@ -133,7 +139,7 @@ module _ (p : Pod) (q : Params) (a o : Ring) (l m : Lent) (sizes : sizesIn l ≡
     obey-alike (asked.Initialise f) =
         let code = commandRow (asked.Initialise f) .code in
         ran-two (λ o q. TellAlike (overRoom (given (answered (replied code o) room)) w₁) (overRoom (given (answered (replied code q) room)) w₂)) refl
-        (λ n. stays (shut p) off) (λ k. anew (initialisedPod f) (cleared l m sizes))
+        (λ n. stays (shut p) off) (λ k. anew _ (cleared l m sizes))
     obey-alike asked.Status = fail-alike asked.Status (here (rw off)) (here (rw off))
     obey-alike (asked.Update f) = fail-alike (asked.Update f) (here (rw off)) (here (rw off))
     obey-alike (asked.Write id v) = fail-alike (asked.Write id v) (here (rw off)) (here (rw off))
@@ -154,15 +160,10 @@ module _ (p : Pod) (q : Params) (a o : Ring) (l m : Lent) (sizes : sizesIn l ≡
 
   -- ---- the other calls
 
-  -- put is refused before its store is found full
   put-alike : (s : Store) (b : List ℕ) → TellAlike (overStore s (putCall s b (storeIn s l) p) w₁) (overStore s (putCall s b (storeIn s m) r) w₂)
-  unfolding putCall storeSized
+  unfolding storeSized
   put-alike s b =
-      let x = storeIn s l in
-      let y = storeIn s m in
-      let e = ran-stop p x (shelved s b x p) (storeRow s x ∷ stateRow p ∷ blockRow b ∷ []) (asleepRow p) (fullRow s p ∷ []) (rw off) in
-      let d = ran-stop r y (shelved s b y r) (storeRow s y ∷ stateRow r ∷ blockRow b ∷ []) (asleepRow r) (fullRow s r ∷ []) (rw off) in
-      rw (e, d)
+      rw (put-asleep s b (storeIn s l) p off, put-asleep s b (storeIn s m) r off)
       (ran-two (λ o q. TellAlike (overStore s o w₁) (overStore s q w₂)) (rw (store-sizes l m sizes s, first, second))
       (λ n. rw (store-same s l, store-same s m) same)
       (λ k. never (not-false (clear-head (clear-rest (clear-rest (clear-rest k))))) off))

@@ -21,12 +21,12 @@ use Rattle.packets.proofs.Laws.{Within, bounded-within, within-bounded}
 use Rattle.params.specs.declared.Params.{Params}
 use Rattle.params.specs.Rules.{soundParams, writeAllowed, stored, writeOf}
 use Rattle.params.proofs.Laws.{write-sound}
-use Rattle.tables.specs.declared.Words.{Words}
 use Rattle.tables.specs.declared.Answered.{Answered}
-use Rattle.tables.specs.Port.{Desk, Tabled, tabled}
-use Rattle.tables.proofs.Kept.{close-sound, command-sound, data-in-sound, data-out-sound, status-sound}
+use Rattle.tables.specs.Port.{Desk, Tabled, tabled, statusOf}
+use Rattle.tables.specs.Bounds.{soundWords}
+use Rattle.tables.proofs.Kept.{close-sound, command-sound, data-in-sound, data-out-sound}
 use Rattle.tables.proofs.Closing.{close-idle, off-idle, idle-in, idle-out, wrong-idle}
-use Rattle.tables.proofs.Obeying.{status-clears}
+use Rattle.tables.proofs.Limits.{sound-places, sound-transfer, both-sound}
 use Rattle.pipe.specs.declared.Pipe.{Pipe}
 use Rattle.pipe.specs.Pipe.{soundPipe}
 use Rattle.pipe.proofs.Laws.{byte-sound, timeout-sound}
@@ -52,8 +52,8 @@ stored-sound q id v e h = rw e at (write-sound q id v h)
 
 -- a command, an open exchange being closed, that passes its checks
 command-in : (c : Command) (l : Lent) (p : Pod) → Clear (checksOf c p) → p .exchange ≡ Closed → PodIn p → PodIn (doneBy c l p .pod)
-unfolding checksOf doneBy initialisedPod
-command-in (command.Initialise f) l p (past k none) shut h = anew-in true f (not-false k)
+unfolding checksOf doneBy initialisedPod soundWords
+command-in (command.Initialise f) l p (past k none) shut h = anew-in true f _ (not-false k)
 command-in command.Status l p (past on none) shut h = in-open h Status (not-false on)
 command-in (command.Update f) l p (past on (past k none)) shut h = in-fields h f (not-false k)
 command-in (command.Write id v) l p (past on (past k none)) shut h = in-params h _ (stored-sound (p .params) id v (not-false k) (h .params))
@@ -95,7 +95,7 @@ acknowledged-in first one p h =
 
 -- a table word
 pub word-in : (c : WordCall) (d : Desk) {p : Pod} → PodIn p → PodIn (withWords (wordOf c (p .initialised) (p .words) d .pod) p)
-unfolding wordOf
+unfolding wordOf statusOf
 word-in (commands x) d {p} h =
     in-words h _ (command-sound (p .initialised) x (tabled (p .words) d) (h .words)) (λ off. rw off (off-idle x (tabled (p .words) d)))
 word-in (dataIn x) d {p} h =
@@ -105,8 +105,7 @@ word-in dataOut d {p} h =
     in-words h _ (data-out-sound (p .words) (d .tables) (h .words))
     (λ off. ap (λ (y : Answered). y .words .transfer) (idle-out (p .words) (d .tables) (off-still p h off)) ∙ wrong-idle (p .words))
 word-in status d {p} h =
-    in-words h _ (status-sound (p .words) (h .words))
-    (λ off. ap (λ (y : Words). y .transfer) (status-clears (p .words)) ∙ off-still p h off)
+    in-words h _ (both-sound _ (sound-places (p .words) (h .words)) (sound-transfer (p .words) (h .words))) (λ off. off-still p h off)
 
 -- a pipe call
 pub pipe-sound : (c : PipeCall) (i : Pipe) → soundPipe i ≡ true → soundPipe (pipeOf c i .pod) ≡ true

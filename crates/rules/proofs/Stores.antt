@@ -31,6 +31,15 @@ of-changed f Priority Ordinary a b = refl
 of-changed f Ordinary Priority a b = refl
 of-changed f Ordinary Ordinary a b = refl
 
+-- and what is made of two such pairs
+pub of-changed-two : {A B C : Type 0} (h : Store → A → B → C) (f : Store → A) (g : Store → B) (r s : Store) (a b : A) (c d : B)
+    → h r (ofStore r (ofStore s (f s) a) (ofStore s b (f s))) (ofStore r (ofStore s (g s) c) (ofStore s d (g s)))
+    ≡ cond (sameStore r s) (h r (f r) (g r)) (h r (ofStore r a b) (ofStore r c d))
+of-changed-two h f g Priority Priority a b c d = refl
+of-changed-two h f g Priority Ordinary a b c d = refl
+of-changed-two h f g Ordinary Priority a b c d = refl
+of-changed-two h f g Ordinary Ordinary a b c d = refl
+
 -- a store is the one that it is the same as
 pub same-is : (r s : Store) → sameStore r s ≡ true → r ≡ s
 same-is Priority Priority e = refl

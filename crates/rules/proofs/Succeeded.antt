@@ -3,21 +3,20 @@
 use Prim.Native.Nat.{ℕ, suc, _≤_, _<_}
 use native.Mathlib.Omega.{arith}
 use mathlib.Core.Path.{_≡_, refl, _∙_}
-use mathlib.Core.Bool.{Bool, true, false, false≢true}
+use mathlib.Core.Bool.{true, false, false≢true}
 use mathlib.Core.List.{List, [], _∷_, _++_}
-use lib.Dec.{ltb, eqb}
+use lib.Dec.{eqb}
 use lib.ListN.{length, getD, set}
 use lib.Seq.{sets, getD-set-other}
 use borrow.Author.Tests.{lt-ltb}
 use Rattle.rows.specs.Rows.{Said, refused, gave, Clear}
-use Rattle.rows.proofs.Bool.{and-false}
 use Rattle.rows.proofs.Laws.{clear-head}
 use borrow.Author.Tests.{ltb-false}
 use Rattle.crc.specs.Crc.{crcOf}
 use Rattle.numbers.specs.Numbers.{highFirst}
 use Rattle.packets.specs.Answers.{withCrc, answerOf, errorAnswer}
 use Rattle.packets.proofs.Laws.{length-of-answer}
-use Rattle.rules.specs.Refusals.{Given, done, bytes, reads}
+use Rattle.rules.specs.Refusals.{Given}
 use Rattle.rules.specs.World.{World, packet, Told, answering, isRefused, rowsOf}
 use Rattle.rules.specs.History.{secondIs, succeeded, errored}
 

@@ -219,8 +219,7 @@ module _ (p : Pod) (l m : Lent) (h : Alike p l m) where
         (λ n. answer-same (says first (refused n)) (shut p) (l .tables) h) (λ k. obeyed-same c k first)
 
   put-same : (s : Store) (b : List ℕ) → Clear (rowsOf w₁ (put s b)) → Same (putting s b w₁) (putting s b w₂)
-  put-same Priority b k = record { points = refl; twins = twin _ _ _ (added p h Priority b (put-fits Priority b w₁ k)) }
-  put-same Ordinary b k = record { points = refl; twins = twin _ _ _ (added p h Ordinary b (put-fits Ordinary b w₁ k)) }
+  put-same s b k = record { points = refl; twins = twin _ _ _ (added p h s b (put-fits s b w₁ k)) }
 
   word-same : (c : WordCall) → Clear (wordRows c (l .tables) p) → Same (wording c w₁) (wording c w₂)
   word-same c k = on (words-alike c (p .initialised) (p .words) (l .tables) (l .load) (m .load) (pod-in p (sound-word c (l .tables) p k) .words) (h .load))
@@ -239,8 +238,8 @@ module _ (p : Pod) (l m : Lent) (h : Alike p l m) where
   steps-same power = ran-two (λ o q. Same (overTables o w₁) (overTables q w₂)) refl (λ n. same) (λ k. alone freshPod starts (cleared p h))
   steps-same (packet b room) = ran-two (λ o q. Same (overRoom o w₁) (overRoom q w₂)) (rw all-same) (λ n. same) (λ k. heard-same room (packetRead b))
   steps-same deadline = ran-two (λ o q. Same (overNothing o w₁) (overNothing q w₂)) refl (λ n. same) (λ k. alone (shut p) (l .tables) h)
-  steps-same (put Priority b) = ran-two (λ o q. Same (overStore Priority o w₁) (overStore Priority q w₂)) (rw (h .priority .size)) (λ n. same) (put-same Priority b)
-  steps-same (put Ordinary b) = ran-two (λ o q. Same (overStore Ordinary o w₁) (overStore Ordinary q w₂)) (rw (h .ordinary .size)) (λ n. same) (put-same Ordinary b)
+  steps-same (put s b) =
+      ran-two (λ o q. Same (overStore s o w₁) (overStore s q w₂)) (rw (held p h s .size)) (λ n. rw (store-same s l, store-same s (w₂ .lent)) same) (put-same s b)
   steps-same (word c) = ran-two (λ o q. Same (overDesk o w₁) (overDesk q w₂)) refl (λ n. same) (word-same c)
   steps-same (pipe c) = ran-two (λ o q. Same (overSent o w₁) (overSent q w₂)) refl (λ n. same) (λ k. alone _ (l .tables) h)
   steps-same (samples k xs) = ran-two (λ o q. Same (overFrames o w₁) (overFrames q w₂)) refl (λ n. same) (λ k. same)

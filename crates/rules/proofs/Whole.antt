@@ -6,11 +6,12 @@ use Rattle.rules.proofs.Sound.{kept-sound}
 use Rattle.rules.proofs.LoadWhole.{load-whole}
 use Rattle.rules.proofs.LoadCut.{load-cut}
 use Rattle.rules.proofs.ReadWhole.{read-whole, read-ends, read-moves}
-use Rattle.rules.proofs.TablesOnly.{tables-only}
+use Rattle.rules.proofs.NoOther.{tables-only}
 use Rattle.rules.proofs.MessageError.{message-error, error-is-history, status-word-shows}
-use Rattle.rules.proofs.Checked.{packet-answered, opens-exactly, damage, error-unchanged}
+use Rattle.rules.proofs.PortOnly.{port-only, places-only}
+use Rattle.rules.proofs.Checked.{packet-answered, opens-exactly, damage, damage-answered, error-unchanged}
 use Rattle.rules.proofs.Blocks.{blocks-are-history}
-use Rattle.rules.proofs.Shows.{receive-is-history, status-is-history, read-is-written}
+use Rattle.rules.proofs.Asked.{receive-is-history, status-is-history, read-is-written}
 use Rattle.rules.proofs.Flow.{pipe-is-history}
 use Rattle.rules.proofs.Frames.{frames-are-history}
 use Rattle.rules.proofs.NoTrace.{no-trace, as-from-power, no-trace-past}
@@ -33,9 +34,12 @@ whole =
       message-error = message-error;
       error-is-history = error-is-history;
       status-word-shows = status-word-shows;
+      port-only = port-only;
+      places-only = places-only;
       packet-answered = packet-answered;
       opens-exactly = opens-exactly;
       damage = damage;
+      damage-answered = damage-answered;
       error-unchanged = error-unchanged;
       blocks-are-history = blocks-are-history;
       receive-is-history = receive-is-history;

@@ -15,12 +15,12 @@ use Rattle.rows.specs.Rows.{Out, out}
 use Rattle.rows.proofs.Bool.{split, by-test}
 use Rattle.tables.specs.declared.Header.{Header}
 use Rattle.tables.specs.declared.Words.{Words}
-use Rattle.tables.specs.declared.Order.{Order}
-use Rattle.tables.specs.declared.Order.the-variants.{Other, Stop, Restart, Next, Writing, Reading}
+use Rattle.orders.specs.declared.Order.{Order}
+use Rattle.orders.specs.declared.Order.the-variants.{Other, Stop, Restart, Next, Writing, Reading}
 use Rattle.tables.specs.declared.Transfer.{Transfer}
 use Rattle.tables.specs.declared.Transfer.the-variants.{Idle, Address, Load, Read}
 use Rattle.tables.specs.Tables.{Three}
-use Rattle.tables.specs.Command.{orderHeard}
+use Rattle.orders.specs.Command.{orderHeard}
 use Rattle.tables.specs.Port.{Desk, desk, tabled, dataCount, fits, closeOf, wrongWay, readOpenedAt, readOpened, restarted, orderObeyed, commandOf, loadRight, storedIn, loadJudged, loadOf, wordTaken, dataInOf, readNext, wordGiven, dataOutOf, statusOf}
 use Rattle.tables.specs.Bounds.{soundTransfer, soundWords}
 use Rattle.tables.proofs.Limits.{sound-transfer, load-in}
@@ -142,5 +142,5 @@ pub words-alike : (c : WordCall) (on : Bool) (w : Words) (t : Three) (d e : List
 unfolding wordOf commandOf dataInOf dataOutOf statusOf
 words-alike (command x) on w t d e ok g = same-desk done _ _ d e (none-came _ (obeyed-none (orderHeard on x) w) (g .long))
 words-alike (dataIn x) on w t d e ok g = taken-alike (w .transfer) x w t d e (sound-transfer w ok) g
-words-alike dataOut on w t d e ok g = same-desk _ _ t d e (none-came _ (given-none (w .transfer) w t) (g .long))
-words-alike status on w t d e ok g = same-desk _ _ t d e g
+words-alike dataOut on w t d e ok g = same-desk _ _ _ d e (none-came _ (given-none (w .transfer) w t) (g .long))
+words-alike status on w t d e ok g = same-desk _ _ _ d e g

@@ -5,7 +5,7 @@ use mathlib.Core.Path.{_≡_}
 use mathlib.Core.Logic.{_↔_}
 use mathlib.Core.Bool.{Bool, true, false, not, _&&_, cond}
 use mathlib.Core.List.{List, [], _∷_, _++_}
-use lib.ListN.{length, replicate}
+use lib.ListN.{length, getD, replicate}
 use lib.Dec.{eqb}
 use Rattle.rows.specs.Rows.{First, refused, gave, held}
 use Rattle.blocks.specs.declared.Store.{Store}
@@ -16,6 +16,7 @@ use Rattle.packets.specs.declared.Command.the-variants as asked
 use Rattle.packets.specs.declared.Parsed.the-variants.{Asked}
 use Rattle.packets.specs.Commands.{commandRow}
 use Rattle.packets.specs.Reading.{packetRead}
+use Rattle.packets.specs.Answers.{errorAnswer}
 use Rattle.tables.specs.declared.Header.{Header}
 use Rattle.tables.specs.declared.Given.the-variants.{Nowhere}
 use Rattle.tables.specs.declared.Transfer.the-variants.{Idle, Read}
@@ -27,12 +28,13 @@ use Rattle.frames.specs.Samples.{averagesOf}
 use Rattle.rules.specs.State.{ringOf, soundPod, Lent, storeIn, deskIn}
 use Rattle.rules.specs.Obey.{shut, exchangeCode, receives}
 use Rattle.rules.specs.Refusals.{done, reads}
-use Rattle.rules.specs.Families.{command, dataIn, dataOut, status}
+use Rattle.rules.specs.Families.{WordCall, command, dataIn, dataOut, status}
 use Rattle.rules.specs.World.{World, withPod, Call, packet, word, samples, roomOf, told, stepped, answering, isAnswered, isRefused, step, rowsOf, next, final, run, tells, powered}
 use Rattle.rules.specs.History.{events, eventOf, fold, succeeded, errored, Flow, noFlow, flowBy, sentBy}
 use Rattle.rules.specs.Replies.{awakeFrom, waitingFrom, statusFrom, readAnswered, receivedFrom, framesFrom}
 use Rattle.rules.specs.Checks.{Answers, damaged}
 use Rattle.rules.specs.Transfers.{cuts, cutsLoad, writtenIn, othersIn, opened, loaded, Loads, Loading, wordShown, readsIn, Reads, errorBy, errorFrom, tablesBy}
+use Rattle.rules.specs.Port.{portBy, wordPlaces, wordGives}
 use Rattle.rules.specs.Pairs.{Accepts, ShutsDown, keptIn, seenIn, Sizes, sizesIn, Asleep, Moment, past}
 
 -- ---- 1. "Any packet, word, sample or state may arrive. Each is answered, or refused by a number in document 01"
@@ -115,6 +117,19 @@ MessageError =
 abbrev pub ErrorIsHistory : Type 0
 ErrorIsHistory = (l : Lent) (cs : List Call) → final (powered l) cs .pod .words .error ≡ errorFrom false (powered l) cs
 
+-- no other call touches the table port
+abbrev pub PortOnly : Type 0
+PortOnly =
+    (w : World) (c : Call)
+    → next w c .pod .words ≡ portBy (eventOf c (step w c .told)) (w .pod .initialised) (w .pod .words) (deskIn (w .lent))
+
+-- and a table word leaves each read place and the given address so
+abbrev pub PlacesOnly : Type 0
+PlacesOnly =
+    (w : World) (c : WordCall) → isAnswered w (word c) ≡ true
+    → (next w (word c) .pod .words .places ≡ wordPlaces c (w .pod .initialised) (w .pod .words))
+    × (next w (word c) .pod .words .given ≡ wordGives c (w .pod .initialised) (w .pod .words))
+
 -- "The status word is 2 with message error, else 0"
 abbrev pub StatusWordShows : Type 0
 StatusWordShows =
@@ -138,6 +153,12 @@ abbrev pub Damage : Type 0
 Damage =
     (w : World) (b room : List ℕ) → damaged b ≡ true
     → next w (packet b room) ≡ cond (isRefused (step w (packet b room) .told .said)) w (withPod (shut (w .pod)) w)
+
+-- "Under 4 bytes, or CRC wrong: 0x01", whatever else stands in it
+abbrev pub DamageAnswered : Type 0
+DamageAnswered =
+    (w : World) (b room : List ℕ) → damaged b ≡ true → isAnswered w (packet b room) ≡ true
+    → step w (packet b room) .told ≡ answering room (errorAnswer (getD b 0 0) 0x01)
 
 -- and so does every packet that gets an error answer: a field out of its bounds, a refused write, nothing waiting
 abbrev pub ErrorUnchanged : Type 0
@@ -203,9 +224,13 @@ NoTrace =
     (f : Fields) (b room : List ℕ) (v w : World) → keptIn v ≡ keptIn w → Accepts f b room v → Accepts f b room w
     → (cs : List Call) → run v (packet b room ∷ cs) ≡ run w (packet b room ∷ cs)
 
--- a pod just powered, with all that is lent empty
+-- all that is lent, empty
+abbrev pub blank : Lent
+blank = record { priority = replicate 4096 0; ordinary = replicate 32768 0; tables = starts; load = replicate 64 0 }
+
+-- a pod just powered
 abbrev pub justPowered : World
-justPowered = powered (record { priority = replicate 4096 0; ordinary = replicate 32768 0; tables = starts; load = replicate 64 0 })
+justPowered = powered blank
 
 -- "and are those of demand 2": those of a pod just powered, of which demand 2 speaks, that gets the same Initialise
 abbrev pub AsFromPower : Type 0

@@ -8,6 +8,7 @@ pub mod History
 pub mod Replies
 pub mod Checks
 pub mod Transfers
+pub mod Port
 pub mod Pairs
 pub mod Demands
 pub mod Shown

@@ -10,7 +10,7 @@ use Rattle.packets.specs.declared.Command.the-variants.{Initialise, Read as Rea
 use Rattle.packets.specs.Answers.{withCrc, commandBytes}
 use Rattle.tables.specs.declared.Transfer.{Transfer}
 use Rattle.tables.specs.declared.Transfer.the-variants.{Idle, Address, Load, Read}
-use Rattle.tables.specs.Tables.{tableNumber}
+use Rattle.orders.specs.Command.{tableNumber}
 use Rattle.tables.specs.Port.{dataCount}
 use Rattle.rules.specs.State.{freshFields}
 use Rattle.rules.specs.Obey.{exchangeCode}

@@ -8,15 +8,15 @@ use mathlib.Core.List.{List, [], _∷_, _++_}
 use lib.Dec.{ltb, eqb}
 use lib.ListN.{length, getD, set}
 use lib.Seq.{sets}
-use Rattle.tables.specs.declared.Table.{Table}
+use Rattle.orders.specs.declared.Table.{Table}
 use Rattle.tables.specs.declared.Header.{Header}
 use Rattle.tables.specs.declared.Words.{Words}
-use Rattle.tables.specs.declared.Order.{Order}
-use Rattle.tables.specs.declared.Order.the-variants.{Other, Stop, Restart, Next, Writing, Reading}
+use Rattle.orders.specs.declared.Order.{Order}
+use Rattle.orders.specs.declared.Order.the-variants.{Other, Stop, Restart, Next, Writing, Reading}
 use Rattle.tables.specs.declared.Transfer.{Transfer}
 use Rattle.tables.specs.declared.Transfer.the-variants.{Idle, Address, Load, Read}
-use Rattle.tables.specs.Tables.{Three, starts, tableNumber, tablesSized, wordsOf, withTable, readPlace}
-use Rattle.tables.specs.Command.{orderHeard}
+use Rattle.tables.specs.Tables.{Three, starts, tablesSized, wordsOf, withTable, readPlace}
+use Rattle.orders.specs.Command.{tableNumber, orderHeard}
 use Rattle.tables.specs.Port.{Desk, desk, dataCount, fits, header, isOpen, beginsAt, closeOf, withTransfer, withError, loadRight, storedIn}
 use Rattle.rules.specs.State.{soundPod, withWords, withDesk}
 use Rattle.rules.specs.Families.{WordCall, command, dataIn, dataOut, status}

@@ -1,6 +1,6 @@
 -- All that the owner asked for, in one record: proofs/Whole.antt has its one value.
 -- Assumes nothing.
-use Rattle.rules.specs.Demands.{AlwaysAnswered, LowestFirst, RefusedUnchanged, KeptSound, LoadWhole, LoadCut, ReadWhole, ReadEnds, ReadMoves, TablesOnly, MessageError, ErrorIsHistory, StatusWordShows, PacketAnswered, OpensExactly, Damage, ErrorUnchanged, BlocksAreHistory, ReceiveIsHistory, StatusIsHistory, ReadIsWritten, PipeIsHistory, FramesAreHistory, NoTrace, AsFromPower, NoTracePast, AnswerAlike, AsleepFromPower, AsleepFromShutdown}
+use Rattle.rules.specs.Demands.{AlwaysAnswered, LowestFirst, RefusedUnchanged, KeptSound, LoadWhole, LoadCut, ReadWhole, ReadEnds, ReadMoves, TablesOnly, MessageError, ErrorIsHistory, StatusWordShows, PortOnly, PlacesOnly, PacketAnswered, OpensExactly, Damage, DamageAnswered, ErrorUnchanged, BlocksAreHistory, ReceiveIsHistory, StatusIsHistory, ReadIsWritten, PipeIsHistory, FramesAreHistory, NoTrace, AsFromPower, NoTracePast, AnswerAlike, AsleepFromPower, AsleepFromShutdown}
 use Rattle.rules.specs.Shown.{Shown}
 use Rattle.rules.specs.Computed.{Computed, Conversation}
 
@@ -20,9 +20,12 @@ pub record Whole : Type 0 where
   pub message-error : MessageError
   pub error-is-history : ErrorIsHistory
   pub status-word-shows : StatusWordShows
+  pub port-only : PortOnly
+  pub places-only : PlacesOnly
   pub packet-answered : PacketAnswered
   pub opens-exactly : OpensExactly
   pub damage : Damage
+  pub damage-answered : DamageAnswered
   pub error-unchanged : ErrorUnchanged
   pub blocks-are-history : BlocksAreHistory
   pub receive-is-history : ReceiveIsHistory

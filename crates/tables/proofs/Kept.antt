@@ -6,22 +6,23 @@ use native.Mathlib.Omega.{arith}
 use borrow.Author.Tests.{leb-true, ltb-true}
 use lib.Dec.{ltb, eqb}
 use lib.ListN.{set}
-use Rattle.tables.specs.declared.Table.{Table}
-use Rattle.tables.specs.declared.Table.the-variants.{Five, Six, Seven}
+use Rattle.orders.specs.declared.Table.{Table}
+use Rattle.orders.specs.declared.Table.the-variants.{Five, Six, Seven}
 use Rattle.tables.specs.declared.Header.{Header}
 use Rattle.tables.specs.declared.Places.{Places}
 use Rattle.tables.specs.declared.Words.{Words}
-use Rattle.tables.specs.declared.Parts.{Parts}
-use Rattle.tables.specs.declared.Order.{Order}
-use Rattle.tables.specs.declared.Order.the-variants.{Other, Stop, Restart, Next, Writing, Reading}
+use Rattle.orders.specs.declared.Parts.{Parts}
+use Rattle.orders.specs.declared.Order.{Order}
+use Rattle.orders.specs.declared.Order.the-variants.{Other, Stop, Restart, Next, Writing, Reading}
 use Rattle.tables.specs.declared.Transfer.{Transfer}
 use Rattle.tables.specs.declared.Transfer.the-variants.{Idle, Address, Load, Read}
 use Rattle.tables.specs.Tables.{Three, tableSize, withReadPlace}
-use Rattle.tables.specs.Command.{lengthAllowed, writes, transferAsked, partsOf, orderOf, orderHeard}
+use Rattle.orders.specs.Command.{lengthAllowed, writes, transferAsked, partsOf, orderOf, orderHeard}
 use Rattle.tables.specs.Port.{Tabled, header, dataCount, fits, startWords, closeOf, wrongWay, readOpenedAt, readOpened, restarted, orderObeyed, commandOf, loadRight, loadJudged, loadOf, wordTaken, dataInOf, readNext, wordGiven, dataOutOf, statusOf}
 use Rattle.tables.specs.Bounds.{soundPlaces, soundTransfer, soundWords}
-use Rattle.tables.proofs.Bool.{by-test}
-use Rattle.tables.proofs.Limits.{sound-places, sound-transfer, both-sound, PlacesIn, places-in, in-places, allowed-has, LoadIn, load-in, in-load, ReadIn, read-in, in-read}
+use Rattle.rows.proofs.Bool.{by-test}
+use Rattle.orders.proofs.Lengths.{allowed-has}
+use Rattle.tables.proofs.Limits.{sound-places, sound-transfer, both-sound, PlacesIn, places-in, in-places, LoadIn, load-in, in-load, ReadIn, read-in, in-read}
 
 -- ---- orders
 

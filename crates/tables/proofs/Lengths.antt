@@ -5,16 +5,16 @@ use mathlib.Core.List.{List}
 use Prim.Native.Nat.{ℕ, _+_}
 use lib.Dec.{ltb}
 use lib.ListN.{length, set, length-set}
-use Rattle.tables.specs.declared.Table.{Table}
-use Rattle.tables.specs.declared.Table.the-variants.{Five, Six, Seven}
-use Rattle.tables.specs.declared.Order.{Order}
-use Rattle.tables.specs.declared.Order.the-variants.{Other, Stop, Restart, Next, Writing, Reading}
+use Rattle.orders.specs.declared.Table.{Table}
+use Rattle.orders.specs.declared.Table.the-variants.{Five, Six, Seven}
+use Rattle.orders.specs.declared.Order.{Order}
+use Rattle.orders.specs.declared.Order.the-variants.{Other, Stop, Restart, Next, Writing, Reading}
 use Rattle.tables.specs.declared.Transfer.{Transfer}
 use Rattle.tables.specs.declared.Transfer.the-variants.{Idle, Address, Load, Read}
 use Rattle.tables.specs.Tables.{Three, tableSize, tablesSized, startWord, startTable, starts, wordsOf, withTable}
-use Rattle.tables.specs.Command.{orderHeard}
+use Rattle.orders.specs.Command.{orderHeard}
 use Rattle.tables.specs.Port.{Tabled, tablesAfter, commandOf, loadRight, loadJudged, loadOf, wordTaken, dataInOf}
-use Rattle.tables.proofs.Bool.{by-test}
+use Rattle.rows.proofs.Bool.{by-test}
 use Rattle.tables.proofs.Lists.{length-listed}
 use Rattle.tables.proofs.Storing.{stored-size}
 

@@ -1,7 +1,4 @@
-pub mod Bool
-pub mod Ones
 pub mod Lists
-pub mod Orders
 pub mod Obeying
 pub mod Closing
 pub mod Reading

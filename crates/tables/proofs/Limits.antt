@@ -4,16 +4,17 @@ use mathlib.Core.Bool.{true, _&&_}
 use Prim.Native.Nat.{ℕ, _+_, _≤_, _<_}
 use borrow.Author.Tests.{ltb-true, leb-true, lt-ltb, le-leb}
 use lib.Dec.{ltb, leb}
-use Rattle.tables.specs.declared.Table.the-variants.{Five, Six, Seven}
+use Rattle.orders.specs.declared.Table.the-variants.{Five, Six, Seven}
 use Rattle.tables.specs.declared.Header.{Header}
 use Rattle.tables.specs.declared.Places.{Places}
 use Rattle.tables.specs.declared.Words.{Words}
 use Rattle.tables.specs.declared.Transfer.the-variants.{Load, Read}
 use Rattle.tables.specs.Tables.{tableSize}
-use Rattle.tables.specs.Command.{lengthAllowed}
+use Rattle.orders.specs.Command.{lengthAllowed}
 use Rattle.tables.specs.Port.{dataCount, fits}
 use Rattle.tables.specs.Bounds.{soundPlaces, soundTransfer, soundWords}
-use Rattle.tables.proofs.Bool.{and-left, and-right, and-both}
+use Rattle.rows.proofs.Bool.{and-left, and-right, and-both}
+use Rattle.orders.proofs.Lengths.{Allowed, allowed-has, has-allowed}
 
 pub sound-places : (w : Words) → soundWords w ≡ true → soundPlaces (w .places) ≡ true
 unfolding soundWords
@@ -45,18 +46,6 @@ places-in p e =
 pub in-places : (p : Places) → PlacesIn p → soundPlaces p ≡ true
 unfolding soundPlaces
 in-places p h = and-both (le-leb _ _ (h .five)) (and-both (le-leb _ _ (h .six)) (le-leb _ _ (h .seven)))
-
--- N 4 to 64
-pub record Allowed (n : ℕ) : Type 0 where
-  pub least : 4 ≤ n
-  pub most : n ≤ 64
-
-pub allowed-has : (n : ℕ) → lengthAllowed n ≡ true → Allowed n
-allowed-has n h =
-    record { least = leb-true _ _ (and-left (leb 4 n) (leb n 64) h); most = leb-true _ _ (and-right (leb 4 n) (leb n 64) h) }
-
-has-allowed : (n : ℕ) → Allowed n → lengthAllowed n ≡ true
-has-allowed n h = and-both (le-leb _ _ (h .least)) (le-leb _ _ (h .most))
 
 -- an open load: its length allowed, and 0 to N-1 words along
 pub record LoadIn (h : Header) (k : ℕ) : Type 0 where

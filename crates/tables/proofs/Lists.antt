@@ -7,7 +7,7 @@ use native.Mathlib.Nat.{add-zero, add-suc, suc-add}
 use native.Mathlib.Omega.{arith}
 use lib.ListN.{length, set, take, drop, getD, length-append}
 use lib.Seq.{sets, take-suc, drop-cons, length-take-le, set-at}
-use Rattle.tables.specs.declared.Table.{Table}
+use Rattle.orders.specs.declared.Table.{Table}
 use Rattle.tables.specs.Tables.{tableSize, startWord, listed, startTable}
 
 -- a run of stores with one more at its end

@@ -9,9 +9,10 @@ use lib.ListN.{getD, set}
 use Rattle.tables.specs.declared.Header.{Header}
 use Rattle.tables.specs.declared.Words.{Words}
 use Rattle.tables.specs.declared.Transfer.the-variants.{Idle, Load}
-use Rattle.tables.specs.Tables.{tableNumber, tableSize, Three, wordsOf, withTable}
+use Rattle.tables.specs.Tables.{tableSize, Three, wordsOf, withTable}
+use Rattle.orders.specs.Command.{tableNumber}
 use Rattle.tables.specs.Port.{desk, Tabled, tabled, withTransfer, erred, dataCount, wordThree, fits, loadRight, storedIn, loadJudged, loadOf}
-use Rattle.tables.proofs.Bool.{and-left, and-right}
+use Rattle.rows.proofs.Bool.{and-left, and-right}
 
 -- what a load that is taken has right
 pub record Right (h : Header) (l : List ℕ) : Type 0 where

@@ -8,13 +8,14 @@ use borrow.Author.Tests.{lt-ltb, le-ltb}
 use lib.Dec.{lit≤}
 use lib.ListN.{getD, drop}
 use lib.Seq.{getD-drop}
-use Rattle.tables.specs.declared.Table.{Table}
-use Rattle.tables.specs.declared.Table.the-variants.{Five, Six, Seven}
+use Rattle.orders.specs.declared.Table.{Table}
+use Rattle.orders.specs.declared.Table.the-variants.{Five, Six, Seven}
 use Rattle.tables.specs.declared.Header.{Header}
 use Rattle.tables.specs.declared.Words.{Words}
 use Rattle.tables.specs.declared.Given.the-variants.{Nowhere}
 use Rattle.tables.specs.declared.Transfer.the-variants.{Idle, Read}
-use Rattle.tables.specs.Tables.{tableNumber, tableSize, withReadPlace}
+use Rattle.tables.specs.Tables.{tableSize, withReadPlace}
+use Rattle.orders.specs.Command.{tableNumber}
 use Rattle.tables.specs.Port.{dataCount, wordThree, fits, readOpenedAt, readWord, readNext, erred, withGiven, withPlaces, withTransfer}
 
 -- a read that would pass its table's end sets message error and does no more: place and given address are kept

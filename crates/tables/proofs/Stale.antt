@@ -17,7 +17,7 @@ use Rattle.tables.specs.declared.Transfer.the-variants.{Idle, Address, L
 use Rattle.tables.specs.Tables.{Three, wordsOf}
 use Rattle.tables.specs.Port.{desk, Tabled, tabled, dataCount, wrongWay, loadRight, storedIn, loadJudged, loadOf, wordTaken, dataInOf}
 use Rattle.tables.specs.Bounds.{soundTransfer, soundWords}
-use Rattle.tables.proofs.Bool.{split}
+use Rattle.rows.proofs.Bool.{split}
 use Rattle.tables.proofs.Limits.{sound-transfer, LoadIn, load-in}
 
 -- how many words an open load has gathered

@@ -1,13 +1,13 @@
 -- The bounds of the port's state.
 use mathlib.Core.Bool.{Bool, true, _&&_}
 use lib.Dec.{ltb, leb}
-use Rattle.tables.specs.declared.Table.the-variants.{Five, Six, Seven}
+use Rattle.orders.specs.declared.Table.the-variants.{Five, Six, Seven}
 use Rattle.tables.specs.declared.Places.{Places}
 use Rattle.tables.specs.declared.Words.{Words}
 use Rattle.tables.specs.declared.Transfer.{Transfer}
 use Rattle.tables.specs.declared.Transfer.the-variants.{Idle, Address, Load, Read}
 use Rattle.tables.specs.Tables.{tableSize}
-use Rattle.tables.specs.Command.{lengthAllowed}
+use Rattle.orders.specs.Command.{lengthAllowed}
 use Rattle.tables.specs.Port.{dataCount, fits}
 
 -- each read place at most its table's size

@@ -1,4 +1,3 @@
 pub mod Tables
-pub mod Command
 pub mod Port
 pub mod Bounds

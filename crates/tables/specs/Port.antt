@@ -5,7 +5,7 @@ use mathlib.Core.List.{List, _∷_}
 use lib.ListN.{getD, set, take, drop}
 use lib.Seq.{sets}
 use lib.Dec.{ltb, leb, eqb}
-use Rattle.tables.specs.declared.Table.{Table}
+use Rattle.orders.specs.declared.Table.{Table}
 use Rattle.tables.specs.declared.Header.{Header}
 use Rattle.tables.specs.declared.Places.{Places}
 use Rattle.tables.specs.declared.Words.{Words}
@@ -14,10 +14,10 @@ use Rattle.tables.specs.declared.Given.{Given}
 use Rattle.tables.specs.declared.Given.the-variants.{Nowhere, At}
 use Rattle.tables.specs.declared.Transfer.{Transfer}
 use Rattle.tables.specs.declared.Transfer.the-variants.{Idle, Address, Load, Read}
-use Rattle.tables.specs.declared.Order.{Order}
-use Rattle.tables.specs.declared.Order.the-variants.{Other, Stop, Restart, Next, Writing, Reading}
-use Rattle.tables.specs.Tables.{tableNumber, tableSize, Three, starts, wordsOf, withTable, readPlace, withReadPlace}
-use Rattle.tables.specs.Command.{orderHeard}
+use Rattle.orders.specs.declared.Order.{Order}
+use Rattle.orders.specs.declared.Order.the-variants.{Other, Stop, Restart, Next, Writing, Reading}
+use Rattle.tables.specs.Tables.{tableSize, Three, starts, wordsOf, withTable, readPlace, withReadPlace}
+use Rattle.orders.specs.Command.{tableNumber, orderHeard}
 
 -- ---- the state with one field changed
 

@@ -4,15 +4,9 @@ use mathlib.Core.Bool.{Bool, _&&_}
 use mathlib.Core.List.{List, [], _∷_, _++_}
 use lib.Dec.{eqb}
 use lib.ListN.{length}
-use Rattle.tables.specs.declared.Table.{Table}
-use Rattle.tables.specs.declared.Table.the-variants.{Five, Six, Seven}
+use Rattle.orders.specs.declared.Table.{Table}
+use Rattle.orders.specs.declared.Table.the-variants.{Five, Six, Seven}
 use Rattle.tables.specs.declared.Places.{Places}
-
--- a table's number is the command that loads and reads it
-abbrev pub tableNumber : Table → ℕ
-tableNumber Five = 5
-tableNumber Six = 6
-tableNumber Seven = 7
 
 -- table 5 has 64 words, table 6 has 128, table 7 has 64
 abbrev pub tableSize : Table → ℕ

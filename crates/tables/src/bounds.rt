@@ -2,13 +2,13 @@
 use crate::Header;
 use crate::Transfer;
 use crate::Words;
-use crate::asked::allowed;
 use crate::sizes::within;
+use orders::allowed;
 ghost use mathlib.Core.Path.{_≡_};
 ghost use mathlib.Core.Bool.{_&&_, not};
 ghost use lib.Dec.{ltb};
 ghost use Rattle.tables.specs.Tables.{three, tablesSized};
-ghost use Rattle.tables.specs.Command.{lengthAllowed};
+ghost use Rattle.orders.specs.Command.{lengthAllowed};
 ghost use Rattle.tables.specs.Port.{isOpen};
 ghost use Rattle.tables.specs.Bounds.{soundTransfer, soundWords};
 

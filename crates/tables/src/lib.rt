@@ -1,5 +1,4 @@
 // The table words: three lent tables of 64, 128 and 64 words that are loaded and read a word at a time.
-mod asked;
 mod bounds;
 mod changes;
 mod loads;
@@ -7,7 +6,6 @@ mod reads;
 mod sizes;
 mod starts;
 
-use crate::asked::heard;
 use crate::changes::restarted;
 use crate::changes::with_error;
 use crate::changes::with_given;
@@ -19,6 +17,9 @@ use crate::reads::word_of;
 pub use bounds::idle;
 pub use bounds::sized;
 pub use bounds::sound;
+use orders::Order;
+pub use orders::Table;
+use orders::heard;
 pub use starts::start_words;
 pub use starts::to_starts;
 ghost use mathlib.Core.Path.{_≡_};
@@ -29,12 +30,6 @@ ghost use lib.ListN.{length};
 ghost use Rattle.tables.specs.Tables.{three};
 ghost use Rattle.tables.specs.Bounds.{soundWords};
 ghost use Rattle.tables.specs.Port.{desk, tabled, answer, closeOf, commandOf, dataInOf, dataOutOf, statusOf, wrongWay};
-
-pub enum Table {
-    Five,
-    Six,
-    Seven,
-}
 
 // What an open load and an open read have in common: n words, of a table.
 pub struct Header {
@@ -76,24 +71,6 @@ pub struct Words {
 pub struct Answered {
     pub word: u16,
     pub words: Words,
-}
-
-// The parts of a command word.
-pub struct Parts {
-    pub odd: bool,
-    pub reads: bool,
-    pub command: u16,
-    pub n: u16,
-}
-
-// What a command word asks for. `Other` is any that is not accepted.
-pub enum Order {
-    Other,
-    Stop,
-    Restart,
-    Next,
-    Writing { table: Table, n: u8 },
-    Reading { table: Table, n: u8 },
 }
 
 // Closes an open transfer, which sets message error.

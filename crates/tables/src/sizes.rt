@@ -2,7 +2,8 @@
 use crate::Header;
 use crate::Table;
 ghost use mathlib.Core.Path.{_≡_};
-ghost use Rattle.tables.specs.Tables.{tableSize, tableNumber};
+ghost use Rattle.tables.specs.Tables.{tableSize};
+ghost use Rattle.orders.specs.Command.{tableNumber};
 ghost use Rattle.tables.specs.Port.{dataCount, fits};
 
 fn size(table: Table) -> u32

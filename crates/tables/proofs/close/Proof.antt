@@ -4,7 +4,7 @@ use mathlib.Core.Path.{_∙_, ap}
 use mathlib.Core.Bool.{Bool, not, _||_}
 use Rattle.tables.specs.declared.Transfer.the-variants.{Idle}
 use Rattle.tables.specs.Port.{withTransfer, withError, isOpen, closeOf}
-use Rattle.tables.proofs.Bool.{not-not}
+use mathlib.Core.Bool.{Bool·not-not}
 use Rattle.tables.proofs.close.Statement.{statement}
 use Rattle.tables.proofs.close.Tie as tie
 
@@ -21,7 +21,7 @@ returns : tie.Need-returns
 unfolding closeOf
 returns c =
     let w = c .before .before .before .before .args .w in
-    let shown = ap not (c .before .before .before .idle .ensures) ∙ not-not (isOpen (w .transfer)) in
+    let shown = ap not (c .before .before .before .idle .ensures) ∙ Bool·not-not (isOpen (w .transfer)) in
     c .with-transfer .ensures
     ∙ ap (withTransfer Idle) (c .before .with-error .ensures ∙ ap (λ (b : Bool). withError (w .error || b) w) shown)
 

@@ -5,10 +5,10 @@ use mathlib.Core.Path.{_≡_, sym, ap, ap₂, _∙_}
 use Prim.Native.Nat.{ℕ}
 use denote.Ref.{now}
 use Rattle.tables.specs.declared.Words.{Words}
-use Rattle.tables.specs.declared.Order.{Order}
+use Rattle.orders.specs.declared.Order.{Order}
 use Rattle.tables.specs.Tables.{Three, three}
 use Rattle.tables.specs.Port.{Desk, desk, tabled, commandOf, orderObeyed, tablesAfter}
-use Rattle.tables.proofs.Orders.{order-said-one}
+use Rattle.orders.proofs.Orders.{order-said-one}
 use Rattle.tables.proofs.Obeying.{obeyed, beside}
 use Rattle.tables.proofs.command.Statement.{statement}
 use Rattle.tables.proofs.command.Tie as tie

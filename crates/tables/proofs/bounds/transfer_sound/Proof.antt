@@ -7,10 +7,10 @@ use lib.Dec.{ltb}
 use borrow.Author.Tests.{not-true, not-false}
 use Rattle.tables.specs.declared.Header.{Header}
 use Rattle.tables.specs.declared.Transfer.the-variants.{Read}
-use Rattle.tables.specs.Command.{lengthAllowed}
+use Rattle.orders.specs.Command.{lengthAllowed}
 use Rattle.tables.specs.Port.{dataCount, fits}
 use Rattle.tables.specs.Bounds.{soundTransfer}
-use Rattle.tables.proofs.Bool.{and-assoc}
+use mathlib.Core.Bool.{and-assoc}
 use Rattle.tables.proofs.bounds.transfer_sound.Statement.{statement}
 use Rattle.tables.proofs.bounds.transfer_sound.Tie as tie
 

@@ -7,8 +7,8 @@ use mathlib.Core.List.{List}
 use lib.ListN.{length, getD, take, drop}
 use lib.Seq.{sets}
 use denote.Ref.{now}
-use Rattle.tables.specs.declared.Table.{Table}
-use Rattle.tables.specs.declared.Table.the-variants.{Five, Six, Seven}
+use Rattle.orders.specs.declared.Table.{Table}
+use Rattle.orders.specs.declared.Table.the-variants.{Five, Six, Seven}
 use Rattle.tables.specs.Tables.{tableSize, Three, three, wordsOf, withTable}
 use Rattle.tables.specs.Port.{dataCount, storedIn}
 use Rattle.tables.proofs.Loading.{right-has}

@@ -6,7 +6,7 @@ use native.Mathlib.Omega.{arith}
 use mathlib.Core.List.{List}
 use lib.ListN.{length}
 use denote.Ref.{now}
-use Rattle.tables.specs.declared.Table.{Table}
+use Rattle.orders.specs.declared.Table.{Table}
 use Rattle.tables.specs.Tables.{tableSize, three, wordsOf}
 use Rattle.tables.specs.Port.{dataCount, readWord}
 use Rattle.tables.proofs.reads.word_of.Statement.{statement}

@@ -5,7 +5,7 @@ use Prim.Native.Nat.{ℕ}
 use native.Mathlib.Nat.{zero-mul}
 use borrow.Author.Needs.{needs}
 use Rattle.tables.specs.Tables.{three}
-use Rattle.tables.specs.declared.Table.the-variants.{Five, Six, Seven}
+use Rattle.orders.specs.declared.Table.the-variants.{Five, Six, Seven}
 use Rattle.tables.proofs.Lists.{filled}
 use Rattle.tables.proofs.starts.to_starts.Statement.{statement}
 use Rattle.tables.proofs.starts.to_starts.Tie as tie

@@ -1,0 +1,3 @@
+pub mod Ones
+pub mod Orders
+pub mod Lengths

@@ -1,0 +1,103 @@
+// What a command word asks for, by its parts.
+use crate::Order;
+use crate::Parts;
+use crate::Table;
+ghost use mathlib.Core.Path.{_≡_};
+ghost use Prim.Native.Nat.{_≤_};
+ghost use Rattle.orders.specs.Command.{oddOnes, partsOf, writes, lengthAllowed, transferAsked, tableAsked, orderOf, orderHeard, orderSaid};
+
+// Whether the count of ones is odd.
+fn odd_ones(word: u16) -> bool
+    ensures { λ r. ⌜ r ≡ oddOnes word ⌝ }
+{
+    let mut rest = word;
+    let mut count: u16 = 0;
+    for i in 0..16usize {
+        count += rest % 2;
+        rest = rest / 2;
+    }
+    count % 2 == 1
+}
+
+fn parts(word: u16) -> Parts
+    ensures { λ r. ⌜ r ≡ partsOf word ⌝ }
+{
+    let odd = odd_ones(word);
+    Parts {
+        odd,
+        reads: word / 0x4000 % 2 == 1,
+        command: word / 0x200 % 0x20,
+        n: word % 0x200,
+    }
+}
+
+fn transfer(p: Parts, table: Table) -> Order
+    requires { ⌜ p .n ≤ 64 ⌝ }
+    ensures { λ r. ⌜ r ≡ transferAsked table p ⌝ }
+{
+    let n = p.n as u8;
+    if p.reads {
+        Order::Reading { table, n }
+    } else {
+        Order::Writing { table, n }
+    }
+}
+
+fn table_order(p: Parts) -> Order
+    requires { ⌜ p .n ≤ 64 ⌝ }
+    ensures { λ r. ⌜ r ≡ tableAsked p ⌝ }
+{
+    if p.command == 5 {
+        return transfer(p, Table::Five);
+    }
+    if p.command == 6 {
+        return transfer(p, Table::Six);
+    }
+    if p.command == 7 {
+        return transfer(p, Table::Seven);
+    }
+    Order::Other
+}
+
+fn writes(p: Parts, command: u16, n: u16) -> bool
+    ensures { λ r. ⌜ r ≡ writes p command n ⌝ }
+{
+    !p.reads & ((p.command == command) & (p.n == n))
+}
+
+pub fn allowed(n: u16) -> bool
+    ensures { λ r. ⌜ r ≡ lengthAllowed n ⌝ }
+{
+    (4 <= n) & (n <= 64)
+}
+
+fn order(p: Parts) -> Order
+    ensures { λ r. ⌜ r ≡ orderOf p ⌝ }
+{
+    if !p.odd {
+        return Order::Other;
+    }
+    if writes(p, 0, 0) {
+        return Order::Stop;
+    }
+    if writes(p, 0, 1) {
+        return Order::Restart;
+    }
+    if writes(p, 1, 1) {
+        return Order::Next;
+    }
+    if allowed(p.n) {
+        return table_order(p);
+    }
+    Order::Other
+}
+
+// What a command word asks for, of a pod that is initialised or not.
+pub fn heard(on: bool, word: u16) -> Order
+    ensures { λ r. ⌜ orderSaid r ≡ orderSaid (orderHeard on word) ⌝ }
+{
+    if on {
+        return order(parts(word));
+    }
+    Order::Other
+}

@@ -1,0 +1,71 @@
+-- The table port after any call: which calls touch it, where each table's next read begins, and which address is given.
+-- Assumes nothing.
+use Prim.Native.Nat.{ℕ, _+_, _-_}
+use mathlib.Core.Bool.{Bool, cond}
+use Rattle.tables.specs.declared.Words.{Words}
+use Rattle.tables.specs.declared.Places.{Places}
+use Rattle.tables.specs.declared.Given.{Given}
+use Rattle.tables.specs.declared.Given.the-variants.{Nowhere, At}
+use Rattle.orders.specs.declared.Order.{Order}
+use Rattle.orders.specs.declared.Order.the-variants.{Other, Stop, Restart, Next, Writing, Reading}
+use Rattle.tables.specs.declared.Transfer.{Transfer}
+use Rattle.tables.specs.declared.Transfer.the-variants.{Idle, Address, Load, Read}
+use Rattle.tables.specs.Tables.{readPlace, withReadPlace}
+use Rattle.orders.specs.Command.{orderHeard}
+use Rattle.tables.specs.Port.{Desk, startWords, closeOf, beginsAt}
+use Rattle.rules.specs.Families.{WordCall, command, dataIn, dataOut, status, wordOf}
+use Rattle.rules.specs.History.{Event, nothing, begins, sleeps, updates, writes, opens, closes, acknowledges, puts, words, pipes}
+use Rattle.rules.specs.Transfers.{notTaken}
+
+-- all of the port: Initialise and power leave it as from power, Shutdown "closes an open transfer", a table word does what it does, and
+-- no other call touches it
+unfoldable pub portBy : Event → Bool → Words → Desk → Words
+portBy nothing on w d = w
+portBy (begins a f) on w d = startWords
+portBy sleeps on w d = closeOf w
+portBy (updates f) on w d = w
+portBy (writes id v) on w d = w
+portBy (opens x) on w d = w
+portBy closes on w d = w
+portBy (acknowledges first one) on w d = w
+portBy (puts s b) on w d = w
+portBy (words c) on w d = wordOf c on w d .pod
+portBy (pipes c l) on w d = w
+
+-- "An accepted read at once puts that place just behind its last data word"; "read places 0"
+abbrev pub placesAfter : Order → Words → Places
+placesAfter Other w = w .places
+placesAfter Stop w = w .places
+placesAfter Restart w = record { five = 0; six = 0; seven = 0 }
+placesAfter Next w = w .places
+placesAfter (Writing t n) w = w .places
+placesAfter (Reading t n) w =
+    cond (notTaken (Reading t n) w) (w .places) (withReadPlace t (beginsAt (w .given) (readPlace t (w .places)) + (n - 3)) (w .places))
+
+unfoldable pub wordPlaces : WordCall → Bool → Words → Places
+wordPlaces (command x) on w = placesAfter (orderHeard on x) w
+wordPlaces (dataIn x) on w = w .places
+wordPlaces dataOut on w = w .places
+wordPlaces status on w = w .places
+
+-- the given address is "used up by an accepted read"; "no address given"
+abbrev pub givenAfter : Order → Words → Given
+givenAfter Other w = w .given
+givenAfter Stop w = w .given
+givenAfter Restart w = Nowhere
+givenAfter Next w = w .given
+givenAfter (Writing t n) w = w .given
+givenAfter (Reading t n) w = cond (notTaken (Reading t n) w) (w .given) Nowhere
+
+-- command 1's word is the "next read address"
+abbrev pub givenIn : Transfer → ℕ → Given → Given
+givenIn Idle x g = g
+givenIn Address x g = At x
+givenIn (Load h k) x g = g
+givenIn (Read h k at) x g = g
+
+unfoldable pub wordGives : WordCall → Bool → Words → Given
+wordGives (command x) on w = givenAfter (orderHeard on x) w
+wordGives (dataIn x) on w = givenIn (w .transfer) x (w .given)
+wordGives dataOut on w = w .given
+wordGives status on w = w .given
