@@ -6,7 +6,7 @@ use mathlib.Core.List.{List, [], _∷_, _++_, append-assoc}
 use lib.ListN.{length, take, length-append}
 use lib.Seq.{take-at, drop-at}
 use Rattle.numbers.specs.Numbers.{highFirst, numberOf, numberAt}
-use Rattle.numbers.specs.Layout.{Part, bytesOf, laidOut, numbersAt}
+use Rattle.numbers.specs.Layout.{Part, laidOut, numbersAt}
 use Rattle.numbers.proofs.Digits.{high-first-length, number-back}
 
 -- each number fits its bytes
@@ -18,14 +18,6 @@ Fits (p ∷ ps) a = (p .value a < 256 ^ p .bytes) × Fits ps a
 abbrev pub numbersOf : {A : Type 0} → List (Part A) → A → List ℕ
 numbersOf [] a = []
 numbersOf (p ∷ ps) a = p .value a ∷ numbersOf ps a
-
--- the bytes are as many as the table says
-pub laid-length : {A : Type 0} → (ps : List (Part A)) (a : A) → length (laidOut ps a) ≡ bytesOf ps
-unfolding laidOut
-laid-length [] a = refl
-laid-length (p ∷ ps) a =
-    length-append (highFirst (p .bytes) (p .value a)) (laidOut ps a)
-    ∙ ap₂ (λ (m n : ℕ). m + n) (high-first-length (p .bytes) (p .value a)) (laid-length ps a)
 
 -- a number behind other bytes is read where they end
 number-there : (front rest : List ℕ) (n x : ℕ) → x < 256 ^ n → numberAt (front ++ (highFirst n x ++ rest)) (length front) n ≡ x

@@ -32,6 +32,7 @@ code-found : (p : List ℕ) (k : ℕ) → isCode k ≡ true → commandRow (code
 unfolding isCode codeRow commandRow commandPlace
 code-found p k = found p commandRows k (refl, (refl, (refl, (refl, (refl, (refl, (refl, (refl, tt))))))))
 
+-- what is not empty is taken as something, and the first byte said is the packet's
 pub named : (p : List ℕ) → 0 < length p → getD (parsedSaid (packetRead p)) 1 (negsuc 0) ≡ pos (first p)
 unfolding packetRead parsedSaid
 named p n =

@@ -1,6 +1,6 @@
 -- What callers may want to know of packets and answers, without opening a definition.
 -- Assumes nothing.
-use Prim.Native.Nat.{ℕ, _+_, _<_, _≤_, _-_}
+use Prim.Native.Nat.{ℕ, _+_, _≤_, _-_}
 use native.Mathlib.Omega.{arith}
 use mathlib.Core.Path.{_≡_, refl, sym, ap, _∙_}
 use mathlib.Core.List.{List, [], _∷_}
@@ -16,20 +16,19 @@ use Rattle.packets.specs.declared.Report.{Report}
 use Rattle.packets.specs.declared.Command.{Command}
 use Rattle.packets.specs.declared.Command.the-variants.{Initialise, Status, Update, Write, Read, Priority, Data, Shutdown}
 use Rattle.packets.specs.declared.Parsed.{Parsed}
-use Rattle.packets.specs.declared.Parsed.the-variants.{Nothing, Error, Acknowledgement, Asked}
+use Rattle.packets.specs.declared.Parsed.the-variants.{Nothing, Error, Asked}
 use Rattle.numbers.specs.Numbers.{highFirst}
 use Rattle.numbers.specs.Layout.{laidOut}
 use Rattle.packets.specs.Commands.{fieldsBounded, findIn, listedIn, codeRow, isCode, commandPlace, commandRow, parsedSaid}
 use Rattle.packets.specs.Reading.{first, crcRight, packetRead}
 use Rattle.packets.specs.Answers.{withCrc, answerOf, errorAnswer, doneAnswer, statusBody, statusAnswer, valueBody, valueAnswer, dataAnswer, fieldBytes, bodyOf, commandBytes}
-use Rattle.packets.proofs.Sendable.{Sendable}
 use Rattle.rows.proofs.Bool.{split}
-use Rattle.packets.proofs.Checks.{empty, short, damaged}
+use Rattle.packets.proofs.Checks.{empty}
 use Rattle.packets.proofs.Room.{answer-length}
 use Rattle.packets.proofs.Bodies.{status-body-length, value-body-length}
 use Rattle.packets.proofs.First.{named, not-empty}
 use Rattle.packets.proofs.Said.{one-to-one}
-use Rattle.packets.proofs.Sent.{rest-of, last-of, closed-right, done-taken, error-taken, sent}
+use Rattle.packets.proofs.Sent.{rest-of, last-of, closed-right}
 
 -- ---- what `read` promises
 
@@ -37,36 +36,21 @@ use Rattle.packets.proofs.Sent.{rest-of, last-of, closed-right, done-ta
 pub read-decided : (r : Parsed) (p : List ℕ) → parsedSaid r ≡ parsedSaid (packetRead p) → r ≡ packetRead p
 read-decided r p = one-to-one r (packetRead p)
 
--- no two things that a packet may be taken as have the same numbers
-pub said-once : (p q : Parsed) → parsedSaid p ≡ parsedSaid q → p ≡ q
-said-once = one-to-one
-
 -- an empty packet is read as nothing
 pub nothing : packetRead [] ≡ Nothing
 nothing = empty [] refl
 
--- a packet that is not empty, of under 4 bytes or with a wrong CRC, gets the error 0x01 with its own first byte
-pub too-short : (p : List ℕ) → 0 < length p → length p < 4 → packetRead p ≡ Error (first p) 0x01
-too-short = short
-
-pub crc-wrong : (p : List ℕ) → 0 < length p → crcRight p ≡ false → packetRead p ≡ Error (first p) 0x01
-crc-wrong = damaged
-
--- what is not empty is taken as something, and the first byte said is the packet's
-pub first-said : (p : List ℕ) → 0 < length p → getD (parsedSaid (packetRead p)) 1 (negsuc 0) ≡ pos (first p)
-first-said = named
-
--- so only an empty packet is read as nothing
+-- and only an empty packet is
 pub only-nothing : (p : List ℕ) → packetRead p ≡ Nothing → length p ≡ 0
 unfolding parsedSaid
 only-nothing p e =
     split (eqb (length p) 0) (λ z. eqb-true (length p) 0 z)
-    (λ z. let n = first-said p (not-empty p z) in let no-number : _≡_ {A = ℕ} 0 1 = cc in absurd (omega arith))
+    (λ z. let n = named p (not-empty p z) in let no-number : _≡_ {A = ℕ} 0 1 = cc in absurd (omega arith))
 
 taken-first : (p : List ℕ) (x : Parsed) → packetRead p ≡ x → (x ≡ Nothing → ⊥) → getD (parsedSaid x) 1 (negsuc 0) ≡ pos (first p)
 taken-first p x e n =
     rw e at (
-    first-said p
+    named p
     (split (eqb (length p) 0) (λ z. absurd (n (sym e ∙ empty p (eqb-true (length p) 0 z)))) (λ z. not-empty p z))
     )
 
@@ -145,18 +129,7 @@ pub answer-right : (f s : ℕ) (body : List ℕ) → crcRight (answerOf f s body
 unfolding answerOf
 answer-right f s body = closed-right (f ∷ s ∷ body)
 
--- an answer of the done or error form whose first byte is 0x90 to 0x9F is itself read as an acknowledgement
-pub done-acknowledges : (f : ℕ) → 0x90 ≤ f → f ≤ 0x9F → packetRead (doneAnswer f) ≡ Acknowledgement f true
-done-acknowledges = done-taken
-
-pub error-acknowledges : (f n : ℕ) → 0x90 ≤ f → f ≤ 0x9F → packetRead (errorAnswer f n) ≡ Acknowledgement f false
-error-acknowledges = error-taken
-
 -- ---- commands
-
--- the bytes of a command that can be sent are read as that command
-pub sent-is-read : (c : Command) → Sendable c → packetRead (commandBytes c) ≡ Asked c
-sent-is-read = sent
 
 -- a command's bytes are as many as the table says
 pub bytes-listed : (c : Command) → length (commandBytes c) ≡ commandRow c .bytes

@@ -31,13 +31,12 @@ answer-length f s body =
 
 -- every answer, once it is written. two is the room with its first two bytes, ys its part from byte 2 on with the body
 pub answered : (room : List ℕ) (f s : ℕ) (body two ys room′ : List ℕ) (k end n : ℕ)
-    → two ≡ sets room 0 (f ∷ s ∷ []) → k ≡ length two - 2 → end ≡ 2 + length body → end ≤ length room
-    → ys ≡ sets (take k (drop 2 two)) 0 body
+    → two ≡ sets room 0 (f ∷ s ∷ []) → k ≡ length two - 2 → ys ≡ sets (take k (drop 2 two)) 0 body
     → (room′ ≡ sets (take 2 two ++ (ys ++ drop k (drop 2 two))) end (highFirst 2 (crcOf (take end (take 2 two ++ (ys ++ drop k (drop 2 two)))))))
     × (n ≡ end + 2)
-    → Written (answerOf f s body) room room′ n
+    → end ≡ 2 + length body → end ≤ length room → Written (answerOf f s body) room room′ n
 unfolding answerOf
-answered room f s body two ys room′ k end n et ek ee h y c =
+answered room f s body two ys room′ k end n et ek y c ee h =
     record {
       room = c .0 ∙ rw (lent two ys body 2 k (omega (arith, ap length et, length-sets room 0 (f ∷ s ∷ []))) ek y, et) (closed-there room (f ∷ s ∷ body) end (omega arith) h);
       count = omega (arith, c .1, answer-length f s body);

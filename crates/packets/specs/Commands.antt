@@ -43,6 +43,7 @@ fieldsOf n =
       poll = getD n 7 0;
     }
 
+-- the fields that a packet carries
 unfoldable pub fieldsIn : List ℕ → Fields
 fieldsIn packet = fieldsOf (numbersAt fieldParts packet 2)
 
@@ -66,7 +67,7 @@ pub record CommandRow : Type 0 where
 abbrev pub commandLine : ℕ → (List ℕ → Command) → ℕ → ℕ → ℕ → CommandRow
 commandLine k c t b a = record { code = k; command = c; kind = t; bytes = b; answer = a }
 
--- the packet table
+-- the packet table; what a packet carries stands between its first two bytes and its CRC
 abbrev pub commandRows : List CommandRow
 commandRows =
     commandLine 0x90 (λ p. Initialise (fieldsIn p)) 1 (4 + bytesOf fieldParts) 5

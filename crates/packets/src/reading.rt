@@ -126,14 +126,13 @@ pub fn read(packet: &[u8]) -> Parsed
         return Parsed::Error(first, TOO_SHORT);
     }
     let second = packet[1];
-    let right = crc_right(packet);
-    let length = length_of(first);
-    if !right {
+    if !crc_right(packet) {
         return Parsed::Error(first, DAMAGED);
     }
     if is_acknowledgement(packet) {
         return Parsed::Acknowledgement(first, second == 0x01);
     }
+    let length = length_of(first);
     if length == 0 {
         return Parsed::Error(first, UNKNOWN);
     }

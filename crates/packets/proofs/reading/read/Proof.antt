@@ -17,26 +17,28 @@ use Rattle.packets.proofs.reading.read.Statement.{statement}
 use Rattle.packets.proofs.reading.read.Tie as tie
 
 -- the packet, and what is known of it behind each test
-abbrev packet : tie.After-length-of → List ℕ
-packet c = c .before .before .before .before .before .before .before .args .packet .now
+abbrev packet : tie.After-crc-right → List ℕ
+packet c = c .before .before .before .before .before .before .args .packet .now
 
-four : (c : tie.After-length-of) → 4 ≤ length (packet c)
-four c = c .before .before .before .if2 .left
+four : (c : tie.After-crc-right) → 4 ≤ length (packet c)
+four c = c .before .before .if2 .left
 
 right : (c : tie.Else3) → crcRight (packet (c .before)) ≡ true
-right c = sym (c .before .before .crc-right .ensures) ∙ not-false _ (c .if3 .left)
+right c = sym (c .before .crc-right .ensures) ∙ not-false _ (c .if3 .left)
 
-abbrev asked-for : tie.Else4 → tie.After-length-of
-asked-for c = c .before .before .before
+abbrev judged : tie.Else4 → tie.After-crc-right
+judged c = c .before .before .before
 
-no-form : (c : tie.Else4) → acknowledges (packet (asked-for c)) ≡ false
+no-form : (c : tie.Else4) → acknowledges (packet (judged c)) ≡ false
 no-form c = sym (c .before .is-acknowledgement .ensures) ∙ c .if4 .left
 
-code : (c : tie.Else5) → isCode (first (packet (asked-for (c .before)))) ≡ true
+abbrev unformed : tie.Else5 → tie.Else4
+unformed c = c .before .before
+
+code : (c : tie.Else5) → isCode (first (packet (judged (unformed c)))) ≡ true
 code c =
-    let called = asked-for (c .before) in
-    code-is (first (packet called))
-    ∙ ap not (ne-eqb (codeRow (first (packet called)) .bytes) 0 (λ e. c .if5 .left (called .length-of .ensures ∙ e)))
+    let k = first (packet (judged (unformed c))) in
+    code-is k ∙ ap not (ne-eqb (codeRow k .bytes) 0 (λ e. c .if5 .left (c .before .length-of .ensures ∙ e)))
 
 returns : tie.Need-returns
 returns c = ap parsedSaid (sym (empty (c .before .before .args .packet .now) (c .if1 .taken)))
@@ -46,51 +48,48 @@ returns-2 c = ap parsedSaid (sym (short (c .before .before .before .before .args
 
 returns-3 : tie.Need-returns-3
 returns-3 c =
-    let called = c .before in
-    ap parsedSaid (sym (damaged (packet called) (omega (arith, four called)) (sym (called .before .crc-right .ensures) ∙ not-true _ (c .if3 .taken))))
+    let p = c .before in
+    ap parsedSaid (sym (damaged (packet p) (omega (arith, four p)) (sym (p .crc-right .ensures) ∙ not-true _ (c .if3 .taken))))
 
 returns-4 : tie.Need-returns-4
 returns-4 c =
-    let passed = c .before .before in
-    let called = passed .before in
-    ap parsedSaid (sym (acknowledged (packet called) (four called) (right passed) (sym (c .before .is-acknowledgement .ensures) ∙ c .if4 .taken)))
+    let p = c .before .before .before in
+    ap parsedSaid (sym (acknowledged (packet p) (four p) (right (c .before .before)) (sym (c .before .is-acknowledgement .ensures) ∙ c .if4 .taken)))
 
 returns-5 : tie.Need-returns-5
 returns-5 c =
-    let passed = c .before in
-    let called = asked-for passed in
-    ap parsedSaid (sym (unknown (packet called) (four called) (right (passed .before .before)) (no-form passed) (sym (called .length-of .ensures) ∙ c .if5 .taken)))
+    let q = c .before .before in
+    let p = judged q in
+    ap parsedSaid (sym (unknown (packet p) (four p) (right (q .before .before)) (no-form q) (sym (c .before .length-of .ensures) ∙ c .if5 .taken)))
 
 returns-6 : tie.Need-returns-6
 returns-6 c =
-    let passed = c .before .before in
-    let called = asked-for passed in
-    ap parsedSaid (sym (second-wrong (packet called) (four called) (right (passed .before .before)) (no-form passed) (code (c .before)) (c .if6 .taken)))
+    let q = unformed (c .before) in
+    let p = judged q in
+    ap parsedSaid (sym (second-wrong (packet p) (four p) (right (q .before .before)) (no-form q) (code (c .before)) (c .if6 .taken)))
 
 returns-7 : tie.Need-returns-7
 returns-7 c =
-    let passed = c .before .before .before in
-    let called = asked-for passed in
-    let other : length (packet called) ≡ codeRow (first (packet called)) .bytes → ⊥ = λ e. c .if7 .taken (e ∙ sym (called .length-of .ensures)) in
-    ap parsedSaid (sym (length-wrong (packet called) (four called) (right (passed .before .before)) (no-form passed) (code (c .before .before)) (c .before .if6 .left) other))
-
-command-in-requires : tie.Need-command-in-requires
-command-in-requires c κs =
-    (code (c .before .before), c .if7 .left ∙ asked-for (c .before .before .before) .length-of .ensures)
+    let coded = c .before .before in
+    let q = unformed coded in
+    let p = judged q in
+    let other : length (packet p) ≡ codeRow (first (packet p)) .bytes → ⊥ = λ e. c .if7 .taken (e ∙ sym (coded .before .length-of .ensures)) in
+    ap parsedSaid (sym (length-wrong (packet p) (four p) (right (q .before .before)) (no-form q) (code coded) (c .before .if6 .left) other))
 
 returns-8 : tie.Need-returns-8
 returns-8 c =
-    let passed = c .before .before .before .before in
-    let called = asked-for passed in
-    let long : length (packet called) ≡ codeRow (first (packet called)) .bytes = c .before .if7 .left ∙ called .length-of .ensures in
+    let coded = c .before .before .before in
+    let q = unformed coded in
+    let p = judged q in
+    let long : length (packet p) ≡ codeRow (first (packet p)) .bytes = c .before .if7 .left ∙ coded .before .length-of .ensures in
     ap parsedSaid (
     ap Asked (c .command-in .ensures)
-    ∙ sym (asked (packet called) (four called) (right (passed .before .before)) (no-form passed) (code (c .before .before .before)) (c .before .before .if6 .left) long)
+    ∙ sym (asked (packet p) (four p) (right (q .before .before)) (no-form q) (code coded) (c .before .before .if6 .left) long)
     )
 
 pub read-spec : {M : Type 1} → statement M
 read-spec =
     tie.close (tie.spec
-    returns (λ c. search needs) returns-2 (λ c. search needs) (λ c κs. search needs)
-    (λ c κs. search needs) returns-3 (λ c κs. search needs) returns-4 returns-5 returns-6 returns-7
-    command-in-requires returns-8)
+    returns (λ c. search needs) returns-2 (λ c. search needs) (λ c κs. search needs) returns-3 (λ c κs. search needs)
+    returns-4 (λ c κs. search needs) returns-5 returns-6 returns-7
+    (λ c κs. (code (c .before .before), c .if7 .left ∙ c .before .before .before .length-of .ensures)) returns-8)

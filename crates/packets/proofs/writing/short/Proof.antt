@@ -15,8 +15,7 @@ returns c =
     let heading = body .before .before .before .before in
     let a = heading .before .before .before .args in
     answered (a .room .now) (a .first) (a .second) (a .third ∷ []) _ _ _ _ 3 _
-    (heading .head .ensures) refl refl (omega arith)
-    (body .put-one .ensures) (closing .close .ensures)
+    (heading .head .ensures) refl (body .put-one .ensures) (closing .close .ensures) refl (omega arith)
 
 pub short-spec : {M : Type 1} → statement M
 short-spec =

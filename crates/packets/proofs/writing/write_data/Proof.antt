@@ -16,8 +16,7 @@ returns c =
     let heading = body .before .before .before .before in
     let a = heading .before .before .before .before .args in
     answered (a .room .now) (a .first) 0x01 (a .block .now) _ _ _ _ 258 _
-    (heading .head .ensures) refl (omega arith) (omega arith)
-    (body .copy .ensures) (closing .close .ensures)
+    (heading .head .ensures) refl (body .copy .ensures) (closing .close .ensures) (omega arith) (omega arith)
 
 pub write-data-spec : {M : Type 1} → statement M
 write-data-spec =

@@ -22,8 +22,7 @@ returns c =
     let heading = body .before .before .before .before in
     let a = heading .before .before .before .args in
     answered (a .room .now) (a .first) 0x01 (statusBody (a .report)) _ _ _ _ 20 _
-    (heading .head .ensures) refl (omega (arith, status-body-length (a .report) (eight (heading .before .before .before)))) (omega arith)
-    (body .status-body .ensures) (closing .close .ensures)
+    (heading .head .ensures) refl (body .status-body .ensures) (closing .close .ensures) (omega (arith, status-body-length (a .report) (eight (heading .before .before .before)))) (omega arith)
 
 pub write-status-spec : {M : Type 1} → statement M
 write-status-spec =

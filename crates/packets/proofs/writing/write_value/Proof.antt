@@ -20,8 +20,7 @@ returns c =
     let a = heading .before .before .before .args in
     let back : toZ w32 (ofZ w32 (a .value)) ≡ a .value = search needs in
     answered (a .room .now) (a .first) 0x01 (valueBody (a .id) (a .value)) _ _ _ _ 7 _
-    (heading .head .ensures) refl (omega (arith, value-body-length (a .id) (a .value))) (omega arith)
-    (rw back at (body .value-body .ensures)) (closing .close .ensures)
+    (heading .head .ensures) refl (rw back at (body .value-body .ensures)) (closing .close .ensures) (omega (arith, value-body-length (a .id) (a .value))) (omega arith)
 
 pub write-value-spec : {M : Type 1} → statement M
 write-value-spec =

@@ -1,0 +1,45 @@
+-- `word_port::words::data_in` meets its contract: shut is `refused-is`, open is `given-is`. Assumes nothing.
+use mathlib.Core.Path.{ap, _∙_}
+use Rattle.rows.specs.Rows.{given}
+use Rattle.rows.proofs.Laws.{refused-is, given-is}
+use Rattle.tables.specs.Port.{Tabled}
+use Rattle.rules.specs.Refusals.{answerSaid}
+use Rattle.rules.specs.Families.{wordWritten, wordOf, wordLent}
+use Rattle.rules.specs.Calls.{worded, wordCall}
+use Rattle.gates.proofs.Fits.{words-fit}
+use borrow.Author.Needs.{needs}
+use Rattle.word_port.proofs.words.data_in.Statement.{statement}
+use Rattle.word_port.proofs.words.data_in.Tie as tie
+
+data-in-requires : tie.Need-data-in-requires
+data-in-requires c κs =
+    let e = c .before .before .before .before in
+    let fit = words-fit _ _ (rw (e .enum-told .given .1) at (e .before .before .word-gate .ensures)) in
+    (fit .0 .0, fit .0 .1, fit .0 .2, fit .1)
+
+returns-2 : tie.Need-returns-2
+unfolding wordCall wordOf wordLent answerSaid
+returns-2 c =
+    let d = c .before .before .before .before .before .before in
+    let e = d .before .before .before .before .before in
+    let p = e .before .before .before .before .before .before .before .before .before .before .args .pod in
+    ap (λ (s : Tabled). given (worded (wordWritten s) p)) (d .data-in .ensures)
+    ∙ given-is _ _ _ (rw (e .enum-told .given .1) at (e .before .before .word-gate .ensures))
+
+pub data-in-spec : {M : Type 1} → statement M
+unfolding wordCall wordLent answerSaid
+data-in-spec =
+    tie.close
+    (tie.spec
+    (λ c κs. search needs)
+    (λ c. search needs)
+    (λ c. search needs)
+    data-in-requires
+    (λ c. search needs)
+    (λ c. search needs)
+    (λ c. search needs)
+    (λ c. refused-is _ _ _ (rw (c .before .gate .given .1) at (c .before .before .before .word-gate .ensures)))
+    (λ c. search needs)
+    (λ c. search needs)
+    (λ c. search needs)
+    returns-2)
