@@ -1,4 +1,2 @@
-pub mod Choice
-pub mod Lent
-pub mod ObeyLaws
-pub mod AcknowledgeLaws
+pub mod Values
+pub mod Receives

@@ -1,9 +1,9 @@
 // What an acknowledgement does to the pod: it closes the exchange, and the block that was shown goes.
+use crate::changes::remaining_of;
 use crate::changes::ring_of;
 use crate::changes::shut;
 use crate::changes::with_fields;
 use crate::changes::with_ring;
-use crate::obeying::remaining_of;
 use blocks::Store;
 use packets::Fields;
 use rules::Exchange;
@@ -13,11 +13,11 @@ ghost use mathlib.Core.Bool.{true};
 ghost use Prim.Native.Nat.{_-_, _<_};
 ghost use Rattle.blocks.specs.Stores.{capacityOf, soundRing};
 ghost use Rattle.rules.specs.State.{ringOf, remainingOf, withRemaining, soundPod};
-ghost use Rattle.rules.specs.Obey.{codeOf, matches, dropFrom, settled, acknowledgedOf};
+ghost use Rattle.rules.specs.Obey.{exchangeCode, dropFrom, settled, acknowledgedOf};
 
 // The code of the command whose exchange is open, 0 for none.
 fn code(exchange: Exchange) -> u8
-    ensures { λ r. ⌜ r ≡ codeOf exchange ⌝ }
+    ensures { λ r. ⌜ r ≡ exchangeCode exchange ⌝ }
 {
     match exchange {
         Exchange::Closed => 0,
@@ -30,7 +30,7 @@ fn code(exchange: Exchange) -> u8
     }
 }
 
-fn one_less(which: Store, fields: Fields) -> Fields
+fn one_less(fields: Fields, which: Store) -> Fields
     requires { ⌜ 0 < remainingOf which fields ⌝ }
     ensures { λ r. ⌜ r ≡ withRemaining which (remainingOf which fields - 1) fields ⌝ }
 {
@@ -48,24 +48,21 @@ fn one_less(which: Store, fields: Fields) -> Fields
 }
 
 // The oldest block goes, and one fewer remains; were there none of either, neither would change.
-fn drop_from(which: Store, pod: Pod) -> Pod
+fn drop_from(pod: Pod, which: Store) -> Pod
     requires { ⌜ soundRing (capacityOf which) (ringOf which pod) ≡ true ⌝ }
     ensures { λ r. ⌜ r ≡ dropFrom which pod ⌝ }
 {
-    let ring = ring_of(which, pod);
-    if ring.waiting == 0 {
-        return pod;
-    }
+    let ring = ring_of(pod, which);
     let fields = pod.fields;
-    if remaining_of(which, fields) == 0 {
+    if (ring.waiting == 0) | (remaining_of(fields, which) == 0) {
         return pod;
     }
     let next = blocks::dropped(blocks::capacity(which), ring);
-    with_ring(which, next, with_fields(one_less(which, fields), pod))
+    with_ring(with_fields(pod, one_less(fields, which)), which, next)
 }
 
 // A receive's acknowledgement takes the block.
-fn settle(exchange: Exchange, pod: Pod) -> Pod
+fn settle(pod: Pod, exchange: Exchange) -> Pod
     requires { ⌜ soundPod pod ≡ true ⌝ }
     ensures { λ r. ⌜ r ≡ settled exchange pod ⌝ }
 {
@@ -73,18 +70,17 @@ fn settle(exchange: Exchange, pod: Pod) -> Pod
         Exchange::Closed => pod,
         Exchange::Status => pod,
         Exchange::Read => pod,
-        Exchange::Receive(which) => drop_from(which, pod),
+        Exchange::Receive(which) => drop_from(pod, which),
     }
 }
 
-pub fn acknowledged(first: u8, one: bool, pod: Pod) -> Pod
+pub fn acknowledged(pod: Pod, first: u8, one: bool) -> Pod
     requires { ⌜ soundPod pod ≡ true ⌝ }
     ensures { λ r. ⌜ r ≡ acknowledgedOf first one pod ⌝ }
 {
     let exchange = pod.exchange;
-    let matching = one & (first == code(exchange));
-    if matching {
-        return shut(settle(exchange, pod));
+    if one & (first == code(exchange)) {
+        return shut(settle(pod, exchange));
     }
     shut(pod)
 }

@@ -1,20 +1,17 @@
-// The state with one part changed, and a call's answer beside the next state.
+// The state with one part changed.
 use blocks::Ring;
 use blocks::Store;
 use packets::Fields;
 use params::Params;
-use rules::Answer;
-use rules::Called;
+use pipe::Pipe;
 use rules::Exchange;
 use rules::Pod;
-use rules::Refusal;
 use tables::Words;
 ghost use mathlib.Core.Path.{_≡_};
-ghost use Rattle.rules.specs.State.{withInitialised, withFields, withParams, withExchange, withWords, withRing, ringOf};
+ghost use Rattle.rules.specs.State.{withInitialised, withFields, withParams, withExchange, withWords, withRing, withPipe, ringOf, remainingOf};
 ghost use Rattle.rules.specs.Obey.{shut};
-ghost use Rattle.commands.specs.Outcomes.{called};
 
-pub fn with_initialised(initialised: bool, pod: Pod) -> Pod
+pub fn with_initialised(pod: Pod, initialised: bool) -> Pod
     ensures { λ r. ⌜ r ≡ withInitialised initialised pod ⌝ }
 {
     let mut next = pod;
@@ -22,7 +19,7 @@ pub fn with_initialised(initialised: bool, pod: Pod) -> Pod
     next
 }
 
-pub fn with_fields(fields: Fields, pod: Pod) -> Pod
+pub fn with_fields(pod: Pod, fields: Fields) -> Pod
     ensures { λ r. ⌜ r ≡ withFields fields pod ⌝ }
 {
     let mut next = pod;
@@ -30,7 +27,7 @@ pub fn with_fields(fields: Fields, pod: Pod) -> Pod
     next
 }
 
-pub fn with_params(params: Params, pod: Pod) -> Pod
+pub fn with_params(pod: Pod, params: Params) -> Pod
     ensures { λ r. ⌜ r ≡ withParams params pod ⌝ }
 {
     let mut next = pod;
@@ -38,7 +35,7 @@ pub fn with_params(params: Params, pod: Pod) -> Pod
     next
 }
 
-pub fn with_exchange(exchange: Exchange, pod: Pod) -> Pod
+pub fn with_exchange(pod: Pod, exchange: Exchange) -> Pod
     ensures { λ r. ⌜ r ≡ withExchange exchange pod ⌝ }
 {
     let fields = pod.fields;
@@ -63,10 +60,10 @@ pub fn with_exchange(exchange: Exchange, pod: Pod) -> Pod
 pub fn shut(pod: Pod) -> Pod
     ensures { λ r. ⌜ r ≡ shut pod ⌝ }
 {
-    with_exchange(Exchange::Closed, pod)
+    with_exchange(pod, Exchange::Closed)
 }
 
-pub fn with_words(words: Words, pod: Pod) -> Pod
+pub fn with_words(pod: Pod, words: Words) -> Pod
     ensures { λ r. ⌜ r ≡ withWords words pod ⌝ }
 {
     let mut next = pod;
@@ -74,8 +71,16 @@ pub fn with_words(words: Words, pod: Pod) -> Pod
     next
 }
 
+pub fn with_pipe(pod: Pod, pipe: Pipe) -> Pod
+    ensures { λ r. ⌜ r ≡ withPipe pipe pod ⌝ }
+{
+    let mut next = pod;
+    next.pipe = pipe;
+    next
+}
+
 // The ring of a store.
-pub fn ring_of(which: Store, pod: Pod) -> Ring
+pub fn ring_of(pod: Pod, which: Store) -> Ring
     ensures { λ r. ⌜ r ≡ ringOf which pod ⌝ }
 {
     match which {
@@ -84,7 +89,7 @@ pub fn ring_of(which: Store, pod: Pod) -> Ring
     }
 }
 
-pub fn with_ring(which: Store, ring: Ring, pod: Pod) -> Pod
+pub fn with_ring(pod: Pod, which: Store, ring: Ring) -> Pod
     ensures { λ r. ⌜ r ≡ withRing which ring pod ⌝ }
 {
     let mut next = pod;
@@ -100,20 +105,12 @@ pub fn with_ring(which: Store, ring: Ring, pod: Pod) -> Pod
     }
 }
 
-pub fn refused(refusal: Refusal, pod: Pod) -> Called
-    ensures { λ r. ⌜ r ≡ called (Answer.Refused refusal) pod ⌝ }
+// What a store may still be asked for.
+pub fn remaining_of(fields: Fields, which: Store) -> u32
+    ensures { λ r. ⌜ r ≡ remainingOf which fields ⌝ }
 {
-    Called {
-        answer: Answer::Refused(refusal),
-        pod,
-    }
-}
-
-pub fn done(pod: Pod) -> Called
-    ensures { λ r. ⌜ r ≡ called Answer.Done pod ⌝ }
-{
-    Called {
-        answer: Answer::Done,
-        pod,
+    match which {
+        Store::Priority => fields.priorityremaining as u32,
+        Store::Ordinary => fields.memoryremaining,
     }
 }

@@ -1,5 +1,2 @@
-pub mod GateLaws
-pub mod CallLaws
-pub mod AnswerLaws
-pub mod PortLaws
-pub mod Decided
+pub mod Fits
+pub mod Answering

@@ -1,2 +1,2 @@
-pub mod Outcomes
-pub mod Answering
+pub mod Gates
+pub mod Port

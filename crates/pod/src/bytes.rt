@@ -1,5 +1,8 @@
 // The byte pipe.
+use crate::Gate;
 use commands::sound;
+use commands::with_pipe;
+use pipe::Pipe;
 use pipe::Piped;
 use pipe::Sent;
 use rules::Answer;
@@ -8,17 +11,32 @@ use rules::Pod;
 use rules::Refusal;
 ghost use mathlib.Core.Path.{_≡_};
 ghost use mathlib.Core.List.{[]};
-ghost use Rattle.pipe.specs.Input.{packet};
-ghost use Rattle.rules.specs.State.{withPipe};
-ghost use Rattle.rules.specs.Calls.{byteCall, timeoutCall};
-ghost use Rattle.pod.specs.Outcomes.{passing, pipingBy};
+ghost use Rattle.rows.specs.Rows.{refused, out, given};
+ghost use Rattle.pipe.specs.Input.{sentPacket};
+ghost use Rattle.rules.specs.Refusals.{refusalNumber, answerSaid};
+ghost use Rattle.rules.specs.Families.{PipeCall, byte, timeout, inputMoved};
+ghost use Rattle.rules.specs.Calls.{pipeRows, passed, pipeCall};
+ghost use Rattle.pod.specs.Gates.{Gated};
+
+// The rows of every pipe call.
+fn pipe_gate(pod: Pod) -> Gate
+    ensures { λ r. ⌜ ((c : PipeCall) → Gated r (pipeRows c pod)) ⌝ }
+{
+    if !sound(pod) {
+        return Gate::Shut(Refusal::State);
+    }
+    if !pod.initialised {
+        return Gate::Shut(Refusal::Asleep);
+    }
+    Gate::Open
+}
 
 // Refused: nothing is sent.
-fn unpassed(refusal: Refusal, pod: Pod) -> Passed
-    ensures { λ r. ⌜ r ≡ passing (Answer.Refused refusal) (packet []) pod ⌝ }
+fn unpassed(pod: Pod, why: Refusal) -> Passed
+    ensures { λ r. ⌜ out (answerSaid (r .answer)) (r .pod) (r .sent) ≡ out (refused (refusalNumber why)) pod (sentPacket []) ⌝ }
 {
     Passed {
-        answer: Answer::Refused(refusal),
+        answer: Answer::Refused(why),
         sent: Sent {
             bytes: [0; 8],
             count: 0,
@@ -27,45 +45,42 @@ fn unpassed(refusal: Refusal, pod: Pod) -> Passed
     }
 }
 
-fn passed(piped: Piped, pod: Pod) -> Passed
-    ensures { λ r. ⌜ r ≡ passing Answer.Done (piped .sent) (withPipe (piped .input) pod) ⌝ }
+fn passed(pod: Pod, piped: Piped) -> Passed
+    ensures { λ r. ⌜ out (answerSaid (r .answer)) (r .pod) (r .sent) ≡ given (passed (inputMoved piped (pod .pipe)) pod) ⌝ }
 {
     let sent = piped.sent;
     let input = piped.input;
-    let mut next = pod;
-    next.pipe = input;
     Passed {
         answer: Answer::Done,
         sent,
-        pod: next,
+        pod: with_pipe(pod, Pipe { input }),
     }
 }
 
 // A byte from the camera; the eighth sends all eight.
-pub fn pipe_byte(pod: Pod, byte: u8) -> Passed
-    ensures { λ r. ⌜ pipingBy r ≡ byteCall byte pod ⌝ }
+pub fn pipe_byte(pod: Pod, b: u8) -> Passed
+    ensures { λ r. ⌜ out (answerSaid (r .answer)) (r .pod) (r .sent) ≡ pipeCall (byte b) pod ⌝ }
 {
-    if !sound(pod) {
-        return unpassed(Refusal::State, pod);
+    let gate = pipe_gate(pod);
+    match gate {
+        Gate::Shut(why) => unpassed(pod, why),
+        Gate::Open => {
+            let input = pod.pipe.input;
+            passed(pod, input.byte(b))
+        }
     }
-    if !pod.initialised {
-        return unpassed(Refusal::Asleep, pod);
-    }
-    let input = pod.pipe;
-    passed(input.byte(byte), pod)
 }
 
 // What is gathered goes as a short packet.
 pub fn pipe_timeout(pod: Pod) -> Passed
-    ensures { λ r. ⌜ pipingBy r ≡ timeoutCall pod ⌝ }
+    ensures { λ r. ⌜ out (answerSaid (r .answer)) (r .pod) (r .sent) ≡ pipeCall timeout pod ⌝ }
 {
-    if !sound(pod) {
-        return unpassed(Refusal::State, pod);
+    let gate = pipe_gate(pod);
+    match gate {
+        Gate::Shut(why) => unpassed(pod, why),
+        Gate::Open => {
+            let input = pod.pipe.input;
+            passed(pod, input.timeout())
+        }
     }
-    let awake = pod.initialised;
-    if !awake {
-        return unpassed(Refusal::Asleep, pod);
-    }
-    let input = pod.pipe;
-    passed(input.timeout(), pod)
 }

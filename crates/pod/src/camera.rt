@@ -1,41 +1,57 @@
 // The camera's blocks.
+use crate::Gate;
 use blocks::Store;
-use commands::done;
-use commands::refused;
 use commands::ring_of;
 use commands::sound;
-use commands::store_sized;
 use commands::with_ring;
+use rules::Answer;
 use rules::Called;
 use rules::Pod;
 use rules::Refusal;
 ghost use mathlib.Core.Path.{_≡_};
-ghost use Rattle.rules.specs.Calls.{putCall};
-ghost use Rattle.pod.specs.Outcomes.{putBy};
+ghost use Rattle.rows.specs.Rows.{out};
+ghost use Rattle.rules.specs.Refusals.{answerSaid};
+ghost use Rattle.rules.specs.Calls.{putRows, putCall};
+ghost use Rattle.pod.specs.Gates.{Gated};
+
+fn put_gate(pod: Pod, which: Store, store: &[u8], block: &[u8]) -> Gate
+    ensures { λ r. ⌜ Gated r (putRows which (now (block .entry)) (now (store .entry)) pod) ⌝ }
+{
+    if !blocks::sized(which, store) {
+        return Gate::Shut(Refusal::Size);
+    }
+    if !sound(pod) {
+        return Gate::Shut(Refusal::State);
+    }
+    if block.len() != 256 {
+        return Gate::Shut(Refusal::Count);
+    }
+    if !pod.initialised {
+        return Gate::Shut(Refusal::Asleep);
+    }
+    if ring_of(pod, which).waiting >= blocks::capacity(which) {
+        return Gate::Shut(Refusal::Full);
+    }
+    Gate::Open
+}
 
 // A block goes behind the others of its store.
 pub fn put(pod: Pod, which: Store, store: &mut [u8], block: &[u8]) -> Called
-    ensures { λ r. ⌜ putBy r (now (store .exit)) ≡ putCall which (now (block .entry)) (now (store .entry)) pod ⌝ }
+    ensures { λ r. ⌜ out (answerSaid (r .answer)) (r .pod) (now (store .exit)) ≡ putCall which (now (block .entry)) (now (store .entry)) pod ⌝ }
 {
-    if !store_sized(which, store) {
-        return refused(Refusal::Size, pod);
+    let gate = put_gate(pod, which, store, block);
+    match gate {
+        Gate::Shut(why) => Called {
+            answer: Answer::Refused(why),
+            pod,
+        },
+        Gate::Open => {
+            let ring = ring_of(pod, which);
+            let more = blocks::put(blocks::capacity(which), ring, store, block);
+            Called {
+                answer: Answer::Done,
+                pod: with_ring(pod, which, more),
+            }
+        }
     }
-    if !sound(pod) {
-        return refused(Refusal::State, pod);
-    }
-    let whole = block.len() == 256;
-    let awake = pod.initialised;
-    if !whole {
-        return refused(Refusal::Count, pod);
-    }
-    if !awake {
-        return refused(Refusal::Asleep, pod);
-    }
-    let ring = ring_of(which, pod);
-    let capacity = blocks::capacity(which);
-    if ring.waiting >= capacity {
-        return refused(Refusal::Full, pod);
-    }
-    let more = blocks::put(capacity, ring, store, block);
-    done(with_ring(which, more, pod))
 }

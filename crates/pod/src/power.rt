@@ -1,36 +1,46 @@
 // Power on, and the deadline of an exchange.
-use commands::done;
 use commands::fresh_pod;
-use commands::refused;
 use commands::shut;
 use commands::sound;
-use commands::tables_sized;
+use rules::Answer;
 use rules::Called;
 use rules::Pod;
 use rules::Refusal;
 ghost use mathlib.Core.Path.{_≡_};
+ghost use Rattle.rows.specs.Rows.{out};
 ghost use Rattle.tables.specs.Tables.{three};
+ghost use Rattle.rules.specs.Refusals.{answerSaid};
 ghost use Rattle.rules.specs.Calls.{powerCall, deadlineCall};
-ghost use Rattle.pod.specs.Outcomes.{outcomeBy, poweredBy};
 
 // The state fresh from power, with the tables at their starts.
-pub fn power_on(five: &mut [u16], six: &mut [u16], seven: &mut [u16]) -> Called
-    ensures { λ r. ⌜ poweredBy r (three (now (five .exit)) (now (six .exit)) (now (seven .exit))) ≡ powerCall (three (now (five .entry)) (now (six .entry)) (now (seven .entry))) ⌝ }
+pub fn power_on(pod: Pod, five: &mut [u16], six: &mut [u16], seven: &mut [u16]) -> Called
+    ensures { λ r. ⌜ out (answerSaid (r .answer)) (r .pod) (three (now (five .exit)) (now (six .exit)) (now (seven .exit))) ≡ powerCall (three (now (five .entry)) (now (six .entry)) (now (seven .entry))) pod ⌝ }
 {
-    let pod = fresh_pod();
-    if !tables_sized(five, six, seven) {
-        return refused(Refusal::Size, pod);
+    if !tables::sized(five, six, seven) {
+        return Called {
+            answer: Answer::Refused(Refusal::Size),
+            pod,
+        };
     }
-    tables::start(five, six, seven);
-    done(pod)
+    tables::to_starts(five, six, seven);
+    Called {
+        answer: Answer::Done,
+        pod: fresh_pod(),
+    }
 }
 
 // 2 ms passed: an open exchange is closed.
 pub fn deadline(pod: Pod) -> Called
-    ensures { λ r. ⌜ outcomeBy r ≡ deadlineCall pod ⌝ }
+    ensures { λ r. ⌜ out (answerSaid (r .answer)) (r .pod) tt ≡ deadlineCall pod ⌝ }
 {
     if !sound(pod) {
-        return refused(Refusal::State, pod);
+        return Called {
+            answer: Answer::Refused(Refusal::State),
+            pod,
+        };
     }
-    done(shut(pod))
+    Called {
+        answer: Answer::Done,
+        pod: shut(pod),
+    }
 }

@@ -1,4 +1,5 @@
 // The sample sets of a survey.
+use crate::Gate;
 use commands::sound;
 use frames::Frames;
 use rules::Answer;
@@ -6,40 +7,46 @@ use rules::Framed;
 use rules::Pod;
 use rules::Refusal;
 ghost use mathlib.Core.Path.{_≡_};
-ghost use Rattle.rules.specs.Calls.{noFrames, samplesCall};
-ghost use Rattle.pod.specs.Outcomes.{framed, sampledBy};
+ghost use Rattle.rows.specs.Rows.{out};
+ghost use Rattle.rules.specs.Refusals.{answerSaid};
+ghost use Rattle.rules.specs.Calls.{samplesRows, samplesCall};
+ghost use Rattle.pod.specs.Gates.{Gated};
 
-// Refused, with no frames.
-fn unframed(refusal: Refusal) -> Framed
-    ensures { λ r. ⌜ r ≡ framed (Answer.Refused refusal) noFrames ⌝ }
+fn samples_gate(pod: Pod, check: u8, set: &[u16]) -> Gate
+    ensures { λ r. ⌜ Gated r (samplesRows check (now (set .entry)) pod) ⌝ }
 {
-    Framed {
-        answer: Answer::Refused(refusal),
-        frames: Frames {
-            three: [0; 8],
-            fortyseven: [0; 8],
-        },
+    if !sound(pod) {
+        return Gate::Shut(Refusal::State);
     }
+    if set.len() != 128 {
+        return Gate::Shut(Refusal::Count);
+    }
+    let within = frames::bounded(set) & (check <= 31);
+    if !within {
+        return Gate::Shut(Refusal::Over);
+    }
+    Gate::Open
 }
 
 // A sample set with a self-check number gives the two frames, and changes nothing.
 pub fn samples(pod: Pod, check: u8, set: &[u16]) -> Framed
-    ensures { λ r. ⌜ sampledBy r ≡ samplesCall check (now (set .entry)) pod ⌝ }
+    ensures { λ r. ⌜ out (answerSaid (r .answer)) pod (r .frames) ≡ samplesCall check (now (set .entry)) pod ⌝ }
 {
-    if !sound(pod) {
-        return unframed(Refusal::State);
-    }
-    if set.len() != 128 {
-        return unframed(Refusal::Count);
-    }
-    let within = frames::bounded(set) & (check <= 31);
-    if !within {
-        return unframed(Refusal::Over);
-    }
-    let pipe = pod.pipe;
-    let frames = frames::two_frames(set, pipe, pod.initialised, check);
-    Framed {
-        answer: Answer::Done,
-        frames,
+    let gate = samples_gate(pod, check, set);
+    match gate {
+        Gate::Shut(why) => Framed {
+            answer: Answer::Refused(why),
+            frames: Frames {
+                an03: [0; 8],
+                an47: [0; 8],
+            },
+        },
+        Gate::Open => {
+            let pipe = pod.pipe;
+            Framed {
+                answer: Answer::Done,
+                frames: frames::two_frames(set, pipe, pod.initialised, check),
+            }
+        }
     }
 }

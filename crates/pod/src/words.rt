@@ -1,26 +1,33 @@
-// The table word port: command word, data words in and out, status word.
-use commands::refused;
+// The table word port: command word, data words in and out, status word. Only the words of the pod can change.
+use crate::Gate;
 use commands::sound;
-use commands::tables_sized;
 use rules::Answer;
-use rules::Called;
 use rules::Pod;
 use rules::Refusal;
-use tables::Words;
+use rules::Worded;
 ghost use mathlib.Core.Path.{_≡_};
+ghost use mathlib.Core.List.{List, [], _∷_};
+ghost use Prim.Native.Nat.{ℕ};
+ghost use Rattle.rows.specs.Rows.{out};
 ghost use Rattle.tables.specs.Tables.{three};
+ghost use Rattle.tables.specs.Port.{Desk, desk};
 ghost use Rattle.rules.specs.State.{withWords};
-ghost use Rattle.rules.specs.Calls.{commandCall, dataInCall, dataOutCall, statusCall};
-ghost use Rattle.commands.specs.Outcomes.{called};
-ghost use Rattle.pod.specs.Outcomes.{outcomeBy, wordedBy};
+ghost use Rattle.rules.specs.Refusals.{answerSaid, tablesRow, stateRow};
+ghost use Rattle.rules.specs.Families.{command, dataIn, dataOut, status};
+ghost use Rattle.rules.specs.Calls.{wordCall};
+ghost use Rattle.pod.specs.Gates.{Gated};
 
-// The answer, beside the pod with the port's next state.
-fn worded(answer: Answer, words: Words, pod: Pod) -> Called
-    ensures { λ r. ⌜ r ≡ called answer (withWords words pod) ⌝ }
+// The rows of every table word that is lent the tables.
+fn word_gate(pod: Pod, five: &[u16], six: &[u16], seven: &[u16]) -> Gate
+    ensures { λ r. ⌜ Gated r (tablesRow (three (now (five .entry)) (now (six .entry)) (now (seven .entry))) ∷ stateRow pod ∷ []) ⌝ }
 {
-    let mut next = pod;
-    next.words = words;
-    Called { answer, pod: next }
+    if !tables::sized(five, six, seven) {
+        return Gate::Shut(Refusal::Size);
+    }
+    if !sound(pod) {
+        return Gate::Shut(Refusal::State);
+    }
+    Gate::Open
 }
 
 pub fn command_word(
@@ -29,57 +36,82 @@ pub fn command_word(
     five: &mut [u16],
     six: &mut [u16],
     seven: &mut [u16],
-) -> Called
-    ensures { λ r. ⌜ wordedBy r (three (now (five .exit)) (now (six .exit)) (now (seven .exit))) ≡ commandCall word (three (now (five .entry)) (now (six .entry)) (now (seven .entry))) pod ⌝ }
+) -> Worded
+    ensures { λ r. ⌜ ((l : List ℕ) → out (answerSaid (r .answer)) (withWords (r .words) pod) (desk (three (now (five .exit)) (now (six .exit)) (now (seven .exit))) l) ≡ wordCall (command word) (desk (three (now (five .entry)) (now (six .entry)) (now (seven .entry))) l) pod) ⌝ }
 {
-    if !tables_sized(five, six, seven) {
-        return refused(Refusal::Size, pod);
-    }
-    if !sound(pod) {
-        return refused(Refusal::State, pod);
-    }
     let words = pod.words;
-    let next = tables::command(words, pod.initialised, word, five, six, seven);
-    worded(Answer::Done, next, pod)
+    let gate = word_gate(pod, five, six, seven);
+    match gate {
+        Gate::Shut(why) => Worded {
+            answer: Answer::Refused(why),
+            words,
+        },
+        Gate::Open => Worded {
+            answer: Answer::Done,
+            words: tables::command(words, pod.initialised, word, five, six, seven),
+        },
+    }
 }
 
-pub fn data_in(pod: Pod, word: u16, five: &mut [u16], six: &mut [u16], seven: &mut [u16]) -> Called
-    ensures { λ r. ⌜ wordedBy r (three (now (five .exit)) (now (six .exit)) (now (seven .exit))) ≡ dataInCall word (three (now (five .entry)) (now (six .entry)) (now (seven .entry))) pod ⌝ }
+pub fn data_in(
+    pod: Pod,
+    word: u16,
+    load: &mut [u16; 64],
+    five: &mut [u16],
+    six: &mut [u16],
+    seven: &mut [u16],
+) -> Worded
+    ensures { λ r. ⌜ out (answerSaid (r .answer)) (withWords (r .words) pod) (desk (three (now (five .exit)) (now (six .exit)) (now (seven .exit))) (now (load .exit))) ≡ wordCall (dataIn word) (desk (three (now (five .entry)) (now (six .entry)) (now (seven .entry))) (now (load .entry))) pod ⌝ }
 {
-    if !tables_sized(five, six, seven) {
-        return refused(Refusal::Size, pod);
-    }
-    if !sound(pod) {
-        return refused(Refusal::State, pod);
-    }
     let words = pod.words;
-    let next = tables::data_in(words, word, five, six, seven);
-    worded(Answer::Done, next, pod)
+    let gate = word_gate(pod, five, six, seven);
+    match gate {
+        Gate::Shut(why) => Worded {
+            answer: Answer::Refused(why),
+            words,
+        },
+        Gate::Open => Worded {
+            answer: Answer::Done,
+            words: tables::data_in(words, word, load, five, six, seven),
+        },
+    }
 }
 
-pub fn data_out(pod: Pod, five: &[u16], six: &[u16], seven: &[u16]) -> Called
-    ensures { λ r. ⌜ outcomeBy r ≡ dataOutCall (three (now (five .entry)) (now (six .entry)) (now (seven .entry))) pod ⌝ }
+pub fn data_out(pod: Pod, five: &[u16], six: &[u16], seven: &[u16]) -> Worded
+    ensures { λ r. ⌜ ((l : List ℕ) → out (answerSaid (r .answer)) (withWords (r .words) pod) (desk (three (now (five .entry)) (now (six .entry)) (now (seven .entry))) l) ≡ wordCall dataOut (desk (three (now (five .entry)) (now (six .entry)) (now (seven .entry))) l) pod) ⌝ }
 {
-    if !tables_sized(five, six, seven) {
-        return refused(Refusal::Size, pod);
-    }
-    if !sound(pod) {
-        return refused(Refusal::State, pod);
-    }
     let words = pod.words;
-    let out = tables::data_out(words, five, six, seven);
-    let next = out.words;
-    worded(Answer::Word(out.word), next, pod)
+    let gate = word_gate(pod, five, six, seven);
+    match gate {
+        Gate::Shut(why) => Worded {
+            answer: Answer::Refused(why),
+            words,
+        },
+        Gate::Open => {
+            let out = tables::data_out(words, five, six, seven);
+            let next = out.words;
+            Worded {
+                answer: Answer::Word(out.word),
+                words: next,
+            }
+        }
+    }
 }
 
-pub fn status_word(pod: Pod) -> Called
-    ensures { λ r. ⌜ outcomeBy r ≡ statusCall pod ⌝ }
+pub fn status_word(pod: Pod) -> Worded
+    ensures { λ r. ⌜ ((d : Desk) → out (answerSaid (r .answer)) (withWords (r .words) pod) d ≡ wordCall status d pod) ⌝ }
 {
-    if !sound(pod) {
-        return refused(Refusal::State, pod);
-    }
     let words = pod.words;
+    if !sound(pod) {
+        return Worded {
+            answer: Answer::Refused(Refusal::State),
+            words,
+        };
+    }
     let out = tables::status(words);
     let next = out.words;
-    worded(Answer::Word(out.word), next, pod)
+    Worded {
+        answer: Answer::Word(out.word),
+        words: next,
+    }
 }

@@ -51,7 +51,7 @@ unfolding writeOf
 stored-sound q id v e h = rw e at (write-sound q id v h)
 
 -- a command, an open exchange being closed, that passes its checks
-command-in : (c : Command) (l : Lent) (p : Pod) → Clear (checksOf c p) → p .exchange ≡ Closed → PodIn p → PodIn (doneBy c l p .pod)
+pub command-in : (c : Command) (l : Lent) (p : Pod) → Clear (checksOf c p) → p .exchange ≡ Closed → PodIn p → PodIn (doneBy c l p .pod)
 unfolding checksOf doneBy initialisedPod
 command-in (command.Initialise f) l p (past k none) shut h = anew-in true f (not-false k)
 command-in command.Status l p (past on none) shut h = in-open h Status (not-false on)

@@ -8,39 +8,20 @@ use borrow.Author.Needs.{needs}
 use Rattle.commands.proofs.acknowledge.acknowledged.Statement.{statement}
 use Rattle.commands.proofs.acknowledge.acknowledged.Tie as tie
 
-code-requires : tie.Need-code-requires
-code-requires c κs = search needs
-
-settle-requires : tie.Need-settle-requires
-settle-requires c κs = search needs
-
-shut-requires : tie.Need-shut-requires
-shut-requires c κs = search needs
-
 returns : tie.Need-returns
 unfolding acknowledgedOf matches
 returns c =
-    let a = c .before .before .before .before .args in
-    let flag = ap (λ (k : ℕ). a .one && eqb (a .first) k) (sym (c .before .before .before .code .ensures)) ∙ c .before .before .if1 .taken in
-    rw (flag, c .shut .ensures, c .before .settle .ensures)
-
-shut-requires-2 : tie.Need-shut-requires-2
-shut-requires-2 c κs = search needs
-
-returns-2 : tie.Need-returns-2
-unfolding acknowledgedOf matches
-returns-2 c =
-    let a = c .before .before .before .args in
-    let flag = ap (λ (k : ℕ). a .one && eqb (a .first) k) (sym (c .before .before .code .ensures)) ∙ c .before .if1 .left in
-    rw flag (c .shut2 .ensures)
+    let i = c .before .before in
+    rw (c .shut .ensures, c .before .settle .ensures, rw (i .before .code .ensures) at (i .if1 .taken))
 
 pub acknowledged-spec : {M : Type 1} → statement M
+unfolding acknowledgedOf matches
 acknowledged-spec =
     tie.close
     (tie.spec
-    code-requires
-    settle-requires
-    shut-requires
+    (λ c κs. search needs)
+    (λ c κs. search needs)
+    (λ c κs. search needs)
     returns
-    shut-requires-2
-    returns-2)
+    (λ c κs. search needs)
+    (λ c. let i = c .before in rw (c .shut2 .ensures, rw (i .before .code .ensures) at (i .if1 .left))))

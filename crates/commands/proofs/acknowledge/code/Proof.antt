@@ -1,53 +1,22 @@
 -- `commands::acknowledge::code` meets its contract. Assumes nothing.
+use Rattle.packets.specs.Commands.{commandPlace, commandRow}
 use borrow.Author.Needs.{needs}
 use Rattle.commands.proofs.acknowledge.code.Statement.{statement}
 use Rattle.commands.proofs.acknowledge.code.Tie as tie
 
-enum-told : tie.Need-enum-told
-enum-told c = search needs
-
-enum-told-2 : tie.Need-enum-told-2
-enum-told-2 c = search needs
-
-enum-told-3 : tie.Need-enum-told-3
-enum-told-3 c = search needs
-
-enum-known-exchange : tie.Need-enum-known-exchange
-enum-known-exchange c = search needs
-
-enum-told-4 : tie.Need-enum-told-4
-enum-told-4 c = search needs
-
-enum-told-5 : tie.Need-enum-told-5
-enum-told-5 c = search needs
-
-returns : tie.Need-returns
-returns c = rw (c .enum-told .given .1)
-
-returns-2 : tie.Need-returns-2
-returns-2 c = rw (c .enum-told2 .given .1)
-
-returns-3 : tie.Need-returns-3
-returns-3 c = rw (c .enum-told3 .given .1)
-
-returns-4 : tie.Need-returns-4
-returns-4 c = rw (c .before .before .before .exchange .given .1, c .enum-told4 .given .1)
-
-returns-5 : tie.Need-returns-5
-returns-5 c = rw (c .before .before .before .exchange .given .1, c .enum-told5 .given .1)
-
 pub code-spec : {M : Type 1} → statement M
+unfolding commandRow commandPlace
 code-spec =
     tie.close
     (tie.spec
-    enum-told
-    enum-told-2
-    enum-told-3
-    enum-known-exchange
-    enum-told-4
-    enum-told-5
-    returns
-    returns-2
-    returns-3
-    returns-4
-    returns-5)
+    (λ c. search needs)
+    (λ c. search needs)
+    (λ c. search needs)
+    (λ c. search needs)
+    (λ c. search needs)
+    (λ c. search needs)
+    (λ c. rw (c .enum-told .given .1))
+    (λ c. rw (c .enum-told2 .given .1))
+    (λ c. rw (c .enum-told3 .given .1))
+    (λ c. rw (c .before .before .before .exchange .given .1, c .enum-told4 .given .1))
+    (λ c. rw (c .before .before .before .exchange .given .1, c .enum-told5 .given .1)))

@@ -1,68 +1,52 @@
--- `commands::acknowledge::drop_from` meets its contract: by the cases of the rule. Assumes nothing.
-use mathlib.Core.Path.{_≡_, sym, ap, _∙_}
+-- `commands::acknowledge::drop_from` meets its contract. Assumes nothing.
 use native.Mathlib.Omega.{arith}
-use Rattle.blocks.specs.declared.Ring.{Ring}
-use Rattle.rules.specs.State.{ringOf, remainingOf}
-use Rattle.commands.proofs.AcknowledgeLaws.{none-waits, none-remains, one-dropped}
+use mathlib.Core.Path.{_≡_, refl}
+use mathlib.Core.Bool.{Bool, true, false, _||_}
+use lib.Dec.{eqb}
+use borrow.Author.Tests.{eqb-false}
+use Rattle.rows.proofs.Bool.{never}
+use Rattle.rules.specs.Obey.{dropFrom}
 use borrow.Author.Needs.{needs}
 use Rattle.commands.proofs.acknowledge.drop_from.Statement.{statement}
 use Rattle.commands.proofs.acknowledge.drop_from.Tie as tie
 
-ring-of-requires : tie.Need-ring-of-requires
-ring-of-requires c κs = search needs
-
-returns : tie.Need-returns
-returns c =
-    let a = c .before .before .before .args in
-    let w : ringOf (a .which) (a .pod) .waiting ≡ 0 = ap (λ (r : Ring). r .waiting) (sym (c .before .before .ring-of .ensures)) ∙ c .if1 .taken in
-    sym (none-waits (a .which) (a .pod) w)
-
-remaining-of-requires : tie.Need-remaining-of-requires
-remaining-of-requires c κs = search needs
-
-returns-2 : tie.Need-returns-2
-returns-2 c =
-    let a = c .before .before .before .before .before .before .args in
-    let n : remainingOf (a .which) (a .pod .fields) ≡ 0 = sym (c .before .remaining-of .ensures) ∙ c .if2 .taken in
-    sym (none-remains (a .which) (a .pod) n)
-
-capacity-requires : tie.Need-capacity-requires
-capacity-requires c κs = search needs
+neither : (a b : Bool) → (a || b) ≡ false → (a ≡ false) × (b ≡ false)
+neither true b h = never refl h
+neither false b h = (refl, h)
 
 dropped-requires : tie.Need-dropped-requires
-dropped-requires c κs = (rw (c .capacity .ensures, c .before .before .before .before .before .before .ring-of .ensures) (c .before .before .before .before .before .before .before .pre), omega (arith, c .before .before .before .before .if1 .left))
+dropped-requires c κs =
+    let m = c .before .before in
+    let r = m .before .before .before in
+    let some = neither (eqb (r .ring-of .result .waiting) 0) (eqb (m .remaining-of .result) 0) (c .before .if1 .left) in
+    (rw (c .capacity .ensures, r .ring-of .ensures) (r .before .pre), omega (arith, eqb-false (r .ring-of .result .waiting) 0 (some .0)))
 
 one-less-requires : tie.Need-one-less-requires
 one-less-requires c κs =
-    let a = c .before .before .before .before .before .before .before .before .args in
-    let n : remainingOf (a .which) (a .pod .fields) ≡ 0 → ⊥ = λ z. c .before .before .if2 .left (c .before .before .before .remaining-of .ensures ∙ z) in
-    omega arith
+    let m = c .before .before .before in
+    let r = m .before .before .before in
+    let some = neither (eqb (r .ring-of .result .waiting) 0) (eqb (m .remaining-of .result) 0) (c .before .before .if1 .left) in
+    omega (arith, eqb-false (m .remaining-of .result) 0 (some .1), m .remaining-of .ensures)
 
-with-fields-requires : tie.Need-with-fields-requires
-with-fields-requires c κs = search needs
-
-with-ring-requires : tie.Need-with-ring-requires
-with-ring-requires c κs = search needs
-
-returns-3 : tie.Need-returns-3
-returns-3 c =
-    let a = c .before .before .before .before .before .before .before .before .before .before .before .args in
-    let w : ringOf (a .which) (a .pod) .waiting ≡ 0 → ⊥ = λ z. c .before .before .before .before .before .before .before .before .if1 .left (ap (λ (r : Ring). r .waiting) (c .before .before .before .before .before .before .before .before .before .before .ring-of .ensures) ∙ z) in
-    let n : remainingOf (a .which) (a .pod .fields) ≡ 0 → ⊥ = λ z. c .before .before .before .before .before .if2 .left (c .before .before .before .before .before .before .remaining-of .ensures ∙ z) in
-    rw (c .with-ring .ensures, c .before .with-fields .ensures, c .before .before .one-less .ensures, c .before .before .before .dropped .ensures, c .before .before .before .before .capacity .ensures, c .before .before .before .before .before .before .before .before .before .before .ring-of .ensures)
-    (sym (one-dropped (a .which) (a .pod) w n))
+returns-2 : tie.Need-returns-2
+unfolding dropFrom
+returns-2 c =
+    let k = c .before .before .before .before in
+    let m = k .before .before in
+    let r = m .before .before .before in
+    rw (c .with-ring .ensures, c .before .with-fields .ensures, c .before .before .one-less .ensures, c .before .before .before .dropped .ensures, k .capacity .ensures, r .ring-of .ensures, rw (m .remaining-of .ensures, r .ring-of .ensures) at (k .before .if1 .left))
 
 pub drop-from-spec : {M : Type 1} → statement M
+unfolding dropFrom
 drop-from-spec =
     tie.close
     (tie.spec
-    ring-of-requires
-    returns
-    remaining-of-requires
-    returns-2
-    capacity-requires
+    (λ c κs. search needs)
+    (λ c κs. search needs)
+    (λ c. let m = c .before in rw (rw (m .remaining-of .ensures, m .before .before .before .ring-of .ensures) at (c .if1 .taken)))
+    (λ c κs. search needs)
     dropped-requires
     one-less-requires
-    with-fields-requires
-    with-ring-requires
-    returns-3)
+    (λ c κs. search needs)
+    (λ c κs. search needs)
+    returns-2)

@@ -4,31 +4,13 @@ use borrow.Author.Needs.{needs}
 use Rattle.commands.proofs.acknowledge.one_less.Statement.{statement}
 use Rattle.commands.proofs.acknowledge.one_less.Tie as tie
 
-enum-told : tie.Need-enum-told
-enum-told c = search needs
-
-sub-next : tie.Need-sub-next
-sub-next c = omega (arith, rw (c .before .enum-told .given .1) at (c .before .before .before .pre))
-
-enum-told-2 : tie.Need-enum-told-2
-enum-told-2 c = search needs
-
-sub-next-2 : tie.Need-sub-next-2
-sub-next-2 c = omega (arith, rw (c .before .enum-told2 .given .1) at (c .before .before .before .pre))
-
-returns : tie.Need-returns
-returns c = rw (c .before .enum-told .given .1)
-
-returns-2 : tie.Need-returns-2
-returns-2 c = rw (c .before .enum-told2 .given .1)
-
 pub one-less-spec : {M : Type 1} → statement M
 one-less-spec =
     tie.close
     (tie.spec
-    enum-told
-    sub-next
-    enum-told-2
-    sub-next-2
-    returns
-    returns-2)
+    (λ c. search needs)
+    (λ c. omega (arith, rw (c .before .enum-told .given .1) at (c .before .before .before .pre)))
+    (λ c. search needs)
+    (λ c. omega (arith, rw (c .before .enum-told2 .given .1) at (c .before .before .before .pre)))
+    (λ c. rw (c .before .enum-told .given .1))
+    (λ c. rw (c .before .enum-told2 .given .1)))

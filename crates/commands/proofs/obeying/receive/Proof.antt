@@ -1,60 +1,58 @@
--- `commands::obeying::receive` meets its contract: by the cases of the rule. Assumes nothing.
+-- `commands::obeying::receive` meets its contract: by the checks of either store. Assumes nothing.
 use mathlib.Core.Path.{_≡_, sym, ap, _∙_}
-use Rattle.blocks.specs.declared.Ring.{Ring}
-use Rattle.rules.specs.State.{ringOf, remainingOf}
-use Rattle.commands.proofs.ObeyLaws.{none-waits, none-remains, one-shown}
+use borrow.Author.Tests.{eq-eqb, ne-eqb}
+use Rattle.rows.specs.Rows.{here, after, none, past}
+use Rattle.rows.proofs.Laws.{refused-is, given-is}
+use Rattle.rules.specs.Obey.{replySaid}
+use Rattle.commands.proofs.Receives.{receive-is}
 use borrow.Author.Needs.{needs}
 use Rattle.commands.proofs.obeying.receive.Statement.{statement}
 use Rattle.commands.proofs.obeying.receive.Tie as tie
 
-ring-of-requires : tie.Need-ring-of-requires
-ring-of-requires c κs = search needs
-
-failed-requires : tie.Need-failed-requires
-failed-requires c κs = search needs
-
-returns : tie.Need-returns
-returns c =
-    let a = c .before .before .before .before .args in
-    let w : ringOf (a .which) (a .pod) .waiting ≡ 0 = ap (λ (r : Ring). r .waiting) (sym (c .before .before .before .ring-of .ensures)) ∙ c .before .if1 .taken in
-    c .failed .ensures ∙ sym (none-waits (a .which) (a .pod) w)
-
-remaining-of-requires : tie.Need-remaining-of-requires
-remaining-of-requires c κs = search needs
-
-failed-requires-2 : tie.Need-failed-requires-2
-failed-requires-2 c κs = search needs
-
 returns-2 : tie.Need-returns-2
-returns-2 c =
-    let a = c .before .before .before .before .before .before .before .args in
-    let w : ringOf (a .which) (a .pod) .waiting ≡ 0 → ⊥ = λ z. c .before .before .before .before .if1 .left (ap (λ (r : Ring). r .waiting) (c .before .before .before .before .before .before .ring-of .ensures) ∙ z) in
-    let n : remainingOf (a .which) (a .pod .fields) ≡ 0 = sym (c .before .before .remaining-of .ensures) ∙ c .before .if2 .taken in
-    c .failed2 .ensures ∙ sym (none-remains (a .which) (a .pod) w n)
-
-with-exchange-requires : tie.Need-with-exchange-requires
-with-exchange-requires c κs = search needs
-
-replied-requires : tie.Need-replied-requires
-replied-requires c κs = search needs
+unfolding replySaid
+returns-2 c l =
+    let r = c .before .before .before in
+    rw (c .replied2 .ensures, receive-is) (refused-is _ _ _ (after (r .before .if1 .left) (here (eq-eqb _ _ (rw (r .ring-of .ensures) at (c .before .if2 .taken))))))
 
 returns-3 : tie.Need-returns-3
-returns-3 c =
-    let a = c .before .before .before .before .before .before .before .before .args in
-    let w : ringOf (a .which) (a .pod) .waiting ≡ 0 → ⊥ = λ z. c .before .before .before .before .before .if1 .left (ap (λ (r : Ring). r .waiting) (c .before .before .before .before .before .before .before .ring-of .ensures) ∙ z) in
-    let n : remainingOf (a .which) (a .pod .fields) ≡ 0 → ⊥ = λ z. c .before .before .if2 .left (c .before .before .before .remaining-of .ensures ∙ z) in
-    rw (c .replied .ensures, c .before .with-exchange .ensures) (sym (one-shown (a .which) (a .pod) w n))
+unfolding replySaid
+returns-3 c l =
+    let f = c .before .before in
+    let e2 = f .before .before in
+    let r = e2 .before .before in
+    rw (c .replied3 .ensures, receive-is)
+    (refused-is _ _ _
+    (after (r .before .if1 .left)
+    (after (ne-eqb _ _ (rw (r .ring-of .ensures) at (e2 .if2 .left)))
+    (here (eq-eqb _ _ (rw (f .remaining-of .ensures) at (c .before .if3 .taken)))))))
+
+returns-4 : tie.Need-returns-4
+unfolding replySaid
+returns-4 c l =
+    let e3 = c .before .before in
+    let f = e3 .before in
+    let e2 = f .before .before in
+    let r = e2 .before .before in
+    rw (c .replied4 .ensures, c .before .with-exchange .ensures, receive-is)
+    (given-is _ _ _
+    (past (r .before .if1 .left)
+    (past (ne-eqb _ _ (rw (r .ring-of .ensures) at (e2 .if2 .left)))
+    (past (ne-eqb _ _ (rw (f .remaining-of .ensures) at (e3 .if3 .left))) none))))
 
 pub receive-spec : {M : Type 1} → statement M
+unfolding replySaid
 receive-spec =
     tie.close
     (tie.spec
-    ring-of-requires
-    failed-requires
-    returns
-    remaining-of-requires
-    failed-requires-2
+    (λ c κs. search needs)
+    (λ c l. rw (c .replied .ensures, receive-is) (refused-is _ _ _ (here (c .before .if1 .taken))))
+    (λ c κs. search needs)
+    (λ c κs. search needs)
     returns-2
-    with-exchange-requires
-    replied-requires
-    returns-3)
+    (λ c κs. search needs)
+    (λ c κs. search needs)
+    returns-3
+    (λ c κs. search needs)
+    (λ c κs. search needs)
+    returns-4)

@@ -1,23 +1,18 @@
 -- `commands::obeying::status` meets its contract. Assumes nothing.
-use Rattle.rules.specs.Obey.{statusRule}
+use Rattle.rows.specs.Rows.{here, none, past}
+use Rattle.rows.proofs.Laws.{refused-is, given-is}
+use Rattle.rules.specs.Obey.{replySaid, checksOf, doneBy, obeyOf}
 use borrow.Author.Needs.{needs}
 use Rattle.commands.proofs.obeying.status.Statement.{statement}
 use Rattle.commands.proofs.obeying.status.Tie as tie
 
-with-exchange-requires : tie.Need-with-exchange-requires
-with-exchange-requires c κs = search needs
-
-replied-requires : tie.Need-replied-requires
-replied-requires c κs = search needs
-
-returns : tie.Need-returns
-unfolding statusRule
-returns c = rw (c .replied .ensures, c .before .with-exchange .ensures)
-
 pub status-spec : {M : Type 1} → statement M
+unfolding obeyOf checksOf replySaid doneBy
 status-spec =
     tie.close
     (tie.spec
-    with-exchange-requires
-    replied-requires
-    returns)
+    (λ c κs. search needs)
+    (λ c l. rw (c .replied .ensures) (refused-is _ _ _ (here (c .before .if1 .taken))))
+    (λ c κs. search needs)
+    (λ c κs. search needs)
+    (λ c l. rw (c .replied2 .ensures, c .before .with-exchange .ensures) (given-is _ _ _ (past (c .before .before .if1 .left) none))))

@@ -1,78 +1,44 @@
 -- `pod::power::power_on` meets its contract. Assumes nothing.
-use mathlib.Core.Path.{sym, _∙_}
-use borrow.Author.Tests.{not-false}
-use Rattle.rules.specs.declared.Refusal.the-variants.{Size}
-use Rattle.rules.specs.Refusals.{numberOf}
-use Rattle.pod.proofs.GateLaws.{none, past, here, as-row}
-use Rattle.pod.proofs.CallLaws.{power-refused, power-done}
-use Rattle.commands.proofs.Lent.{table-lengths}
+use mathlib.Core.Path.{ap, _∙_}
+use Rattle.rows.specs.Rows.{here, none, past, out, gave}
+use Rattle.rows.proofs.Bool.{as-row}
+use Rattle.rows.proofs.Laws.{refused-is, given-is}
+use Rattle.tables.specs.Tables.{Three}
+use Rattle.rules.specs.State.{freshPod}
+use Rattle.rules.specs.Refusals.{done, refusalNumber, answerSaid}
+use Rattle.rules.specs.Calls.{powerCall}
+use Rattle.pod.proofs.Fits.{tables-fit}
 use borrow.Author.Needs.{needs}
 use Rattle.pod.proofs.power.power_on.Statement.{statement}
 use Rattle.pod.proofs.power.power_on.Tie as tie
 
-fresh-pod-requires : tie.Need-fresh-pod-requires
-fresh-pod-requires c κs = search needs
-
-tables-sized-requires : tie.Need-tables-sized-requires
-tables-sized-requires c κs = search needs
-
-refused-requires : tie.Need-refused-requires
-refused-requires c κs = search needs
-
-same-length : tie.Need-same-length
-same-length c = search needs
-
-same-length-2 : tie.Need-same-length-2
-same-length-2 c = search needs
-
-same-length-3 : tie.Need-same-length-3
-same-length-3 c = search needs
-
-returns : tie.Need-returns
-unfolding numberOf
-returns c =
-    let fresh = c .before .before .before .before .before .before in
-    rw (c .refused .ensures, fresh .fresh-pod .ensures) (power-refused _ Size (here (as-row (c .before .before .tables-sized .ensures) (c .before .if1 .taken))))
-
-start-requires : tie.Need-start-requires
-start-requires c κs =
+to-starts-requires : tie.Need-to-starts-requires
+to-starts-requires c κs =
     let e1 = c .before .before .before in
-    let sizes = table-lengths _ (sym (e1 .before .tables-sized .ensures) ∙ not-false _ (e1 .if1 .left)) in
-    search needs
-
-done-requires : tie.Need-done-requires
-done-requires c κs = search needs
-
-same-length-4 : tie.Need-same-length-4
-same-length-4 c = search needs
-
-same-length-5 : tie.Need-same-length-5
-same-length-5 c = search needs
-
-same-length-6 : tie.Need-same-length-6
-same-length-6 c = search needs
+    tables-fit _ (past (as-row (e1 .before .sized .ensures) (e1 .if1 .left)) none)
 
 returns-2 : tie.Need-returns-2
+unfolding powerCall answerSaid
 returns-2 c =
     let s = c .before .before .before .before .before .before .before in
     let e1 = s .before .before .before .before in
-    let fresh = e1 .before .before .before .before .before in
-    rw (c .done .ensures, fresh .fresh-pod .ensures) (power-done _ _ (s .start .ensures) (past (as-row (e1 .before .tables-sized .ensures) (e1 .if1 .left)) none))
+    rw (c .fresh-pod .ensures)
+    (ap (λ (t : Three). out (gave done) freshPod t) (s .to-starts .ensures)
+    ∙ given-is _ _ _ (past (as-row (e1 .before .sized .ensures) (e1 .if1 .left)) none))
 
 pub power-on-spec : {M : Type 1} → statement M
+unfolding powerCall answerSaid refusalNumber
 power-on-spec =
     tie.close
     (tie.spec
-    fresh-pod-requires
-    tables-sized-requires
-    refused-requires
-    same-length
-    same-length-2
-    same-length-3
-    returns
-    start-requires
-    done-requires
-    same-length-4
-    same-length-5
-    same-length-6
+    (λ c κs. search needs)
+    (λ c. search needs)
+    (λ c. search needs)
+    (λ c. search needs)
+    (λ c. refused-is _ _ _ (here (as-row (c .before .sized .ensures) (c .if1 .taken))))
+    to-starts-requires
+    (λ c κs. search needs)
+    (λ c. search needs)
+    (λ c. search needs)
+    (λ c. search needs)
     returns-2)

@@ -1,65 +1,32 @@
--- `pod::words::data_out` meets its contract. Assumes nothing.
-use mathlib.Core.Path.{sym, _∙_}
-use borrow.Author.Tests.{not-false}
-use Rattle.rules.specs.declared.Refusal.the-variants.{Size, State}
-use Rattle.rules.specs.Refusals.{numberOf}
-use Rattle.rules.proofs.Bounds.{pod-in}
-use Rattle.pod.proofs.GateLaws.{none, past, here, after, as-row}
-use Rattle.pod.proofs.CallLaws.{out-refused, out-done}
-use Rattle.commands.proofs.Lent.{table-lengths}
+-- `pod::words::data_out` meets its contract: shut is `refused-is`, open is `given-is`. Assumes nothing.
+use Rattle.rows.proofs.Laws.{refused-is, given-is}
+use Rattle.rules.specs.Refusals.{answerSaid}
+use Rattle.rules.specs.Families.{wordOf, wordLent}
+use Rattle.rules.specs.Calls.{wordCall}
+use Rattle.pod.proofs.Fits.{words-fit}
 use borrow.Author.Needs.{needs}
 use Rattle.pod.proofs.words.data_out.Statement.{statement}
 use Rattle.pod.proofs.words.data_out.Tie as tie
 
-tables-sized-requires : tie.Need-tables-sized-requires
-tables-sized-requires c κs = search needs
-
-refused-requires : tie.Need-refused-requires
-refused-requires c κs = search needs
-
-returns : tie.Need-returns
-unfolding numberOf
-returns c = rw (c .refused .ensures) (out-refused _ _ Size (here (as-row (c .before .before .tables-sized .ensures) (c .before .if1 .taken))))
-
-sound-requires : tie.Need-sound-requires
-sound-requires c κs = search needs
-
-refused-requires-2 : tie.Need-refused-requires-2
-refused-requires-2 c κs = search needs
-
-returns-2 : tie.Need-returns-2
-unfolding numberOf
-returns-2 c =
-    let e1 = c .before .before .before in
-    rw (c .refused2 .ensures) (out-refused _ _ State (after (as-row (e1 .before .tables-sized .ensures) (e1 .if1 .left)) (here (as-row (c .before .before .sound .ensures) (c .before .if2 .taken)))))
-
 data-out-requires : tie.Need-data-out-requires
 data-out-requires c κs =
-    let e2 = c .before in
-    let e1 = e2 .before .before in
-    let l = table-lengths _ (sym (e1 .before .tables-sized .ensures) ∙ not-false _ (e1 .if1 .left)) in
-    (l .0, l .1, l .2, pod-in _ (sym (e2 .before .sound .ensures) ∙ not-false _ (e2 .if2 .left)) .words)
+    let fit = words-fit _ _ (rw (c .enum-told .given .1) at (c .before .before .word-gate .ensures)) in
+    (fit .0 .0, fit .0 .1, fit .0 .2, fit .1)
 
-worded-requires : tie.Need-worded-requires
-worded-requires c κs = search needs
-
-returns-3 : tie.Need-returns-3
-returns-3 c =
-    let d = c .before .before in
-    let e2 = d .before .before in
-    let e1 = e2 .before .before in
-    rw (c .worded .ensures) (out-done _ _ (d .data-out .result) (d .data-out .ensures) (past (as-row (e1 .before .tables-sized .ensures) (e1 .if1 .left)) (past (as-row (e2 .before .sound .ensures) (e2 .if2 .left)) none)))
+returns-2 : tie.Need-returns-2
+unfolding wordCall wordOf wordLent answerSaid
+returns-2 c l =
+    let e = c .before .before in
+    rw (c .before .data-out .ensures) (given-is _ _ _ (rw (e .enum-told .given .1) at (e .before .before .word-gate .ensures)))
 
 pub data-out-spec : {M : Type 1} → statement M
+unfolding wordCall wordLent answerSaid
 data-out-spec =
     tie.close
     (tie.spec
-    tables-sized-requires
-    refused-requires
-    returns
-    sound-requires
-    refused-requires-2
-    returns-2
+    (λ c κs. search needs)
+    (λ c. search needs)
+    (λ c. search needs)
     data-out-requires
-    worded-requires
-    returns-3)
+    (λ c l. refused-is _ _ _ (rw (c .before .gate .given .1) at (c .before .before .before .word-gate .ensures)))
+    returns-2)

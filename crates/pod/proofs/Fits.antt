@@ -1,0 +1,77 @@
+-- What a call's rows leave to its effect, where none of them holds.
+-- Assumes nothing.
+use Prim.Native.Nat.{ℕ, _*_, _≤_, _<_}
+use mathlib.Core.Path.{_≡_}
+use mathlib.Core.Bool.{true, _&&_}
+use mathlib.Core.List.{List, [], _∷_}
+use lib.Dec.{eqb, leb}
+use lib.ListN.{length}
+use borrow.Author.Tests.{ltb-false, leb-true, leb-false, eqb-true}
+use Rattle.rows.specs.Rows.{Row, Clear, none, past}
+use Rattle.rows.proofs.Bool.{and-left, and-right, not-false}
+use Rattle.blocks.specs.declared.Store.{Store}
+use Rattle.blocks.specs.declared.Store.the-variants.{Priority, Ordinary}
+use Rattle.blocks.specs.Stores.{capacityOf, storeSized, soundRing}
+use Rattle.tables.specs.Tables.{Three, tablesSized}
+use Rattle.tables.specs.Bounds.{soundWords}
+use Rattle.pipe.specs.Pipe.{soundPipe}
+use Rattle.pipe.proofs.Laws.{sound-in}
+use Rattle.frames.specs.Samples.{boundedOf}
+use Rattle.rules.specs.declared.Pod.{Pod}
+use Rattle.rules.specs.State.{Lent, withStores, withTables, ringOf}
+use Rattle.rules.specs.Refusals.{tablesRow, stateRow, asleepRow}
+use Rattle.rules.specs.Calls.{roomed, packetRows, putRows, samplesRows}
+use Rattle.rules.proofs.Inside.{pod-in, ring-in}
+use Rattle.pod.specs.Port.{Ready}
+
+store-length : (s : Store) (l : List ℕ) → storeSized s l ≡ true → length l ≡ capacityOf s * 256
+unfolding storeSized
+store-length s l h = eqb-true _ _ h
+
+-- the three tables of their exact sizes
+abbrev pub Sized : Three → Type 0
+Sized t = (length (t .five) ≡ 64) × (length (t .six) ≡ 128) × (length (t .seven) ≡ 64)
+
+table-lengths : (t : Three) → tablesSized t ≡ true → Sized t
+unfolding tablesSized
+table-lengths t h =
+    let a = eqb (length (t .five)) 64 in
+    let b = eqb (length (t .six)) 128 in
+    let c = eqb (length (t .seven)) 64 in
+    let rest = and-right a (b && c) h in
+    (eqb-true _ _ (and-left a (b && c) h), eqb-true _ _ (and-left b c rest), eqb-true _ _ (and-right b c rest))
+
+pub tables-fit : (t : Three) {rs : List Row} → Clear (tablesRow t ∷ rs) → Sized t
+tables-fit t (past k ks) = table-lengths t (not-false k)
+
+pub words-fit : (t : Three) (p : Pod) → Clear (tablesRow t ∷ stateRow p ∷ []) → Sized t × (soundWords (p .words) ≡ true)
+words-fit t p (past k (past ok none)) = (table-lengths t (not-false k), pod-in p (not-false ok) .words)
+
+pub pipe-fits : (p : Pod) {rs : List Row} → Clear (stateRow p ∷ rs) → (p .pipe .input .gathered ≤ 7) × (p .pipe .input .timeouts ≤ 15)
+unfolding soundPipe
+pipe-fits p (past ok k) = sound-in (p .pipe .input) (pod-in p (not-false ok) .pipe)
+
+pub samples-fit : (check : ℕ) (xs : List ℕ) (p : Pod) → Clear (samplesRows check xs p)
+    → (length xs ≡ 128) × (boundedOf xs ≡ true) × (p .pipe .input .timeouts ≤ 15) × (check ≤ 31)
+samples-fit check xs p (past ok (past n (past within none))) =
+    let inside = not-false within in
+    (eqb-true _ _ (not-false n), and-left (boundedOf xs) (leb check 31) inside, pipe-fits p (past ok none) .1, leb-true _ _ (and-right (boundedOf xs) (leb check 31) inside))
+
+pub put-fits : (s : Store) (b store : List ℕ) (p : Pod) → Clear (putRows s b store p)
+    → ((soundRing (capacityOf s) (ringOf s p) ≡ true) × (ringOf s p .waiting < capacityOf s)) × ((length store ≡ capacityOf s * 256) × (length b ≡ 256))
+put-fits s b store p (past size (past ok (past long (past on (past room none))))) =
+    ((ring-in (pod-in p (not-false ok)) s, leb-false _ _ room), (store-length s store (not-false size), eqb-true _ _ (not-false long)))
+
+pub packet-fits : (room a b : List ℕ) (t : Three) (l : Lent) (p : Pod) → Clear (packetRows (roomed room (withTables t (withStores a b l))) p)
+    → Ready room a b p × Sized t
+packet-fits room a b t l p (past long (past size (past ok none))) =
+    let all = not-false size in
+    let some = and-right (storeSized Priority a) (storeSized Ordinary b && tablesSized t) all in (
+      record {
+        room = ltb-false _ _ long;
+        priority = store-length Priority a (and-left (storeSized Priority a) (storeSized Ordinary b && tablesSized t) all);
+        ordinary = store-length Ordinary b (and-left (storeSized Ordinary b) (tablesSized t) some);
+        sound = not-false ok;
+      },
+      table-lengths t (and-right (storeSized Ordinary b) (tablesSized t) some),
+    )
