@@ -1,16 +1,10 @@
-// The pod that the calls start from, and the printing of the last answer.
+// What the calls start from.
 use blocks::Ring;
-use libc::STDOUT_FILENO;
-use rules::Answer;
 use rules::Pod;
 
 // Initialised, with blocks waiting in the ordinary store, and as many still to be asked for as there can be.
 pub fn awake(waiting: usize) -> Pod {
-    let mut five = [0u16; 64];
-    let mut six = [0u16; 128];
-    let mut seven = [0u16; 64];
-    let called = pod::power_on(&mut five, &mut six, &mut seven);
-    let mut pod = called.pod;
+    let mut pod = commands::fresh_pod();
     pod.initialised = true;
     pod.fields.memorylimit = 0xFFFF_FFFF;
     pod.fields.memoryremaining = 0xFFFF_FFFF;
@@ -28,14 +22,10 @@ pub fn fill(bytes: &mut [u8]) {
     }
 }
 
-pub fn print(letter: u8, answer: Answer) {
-    let mut out = [0u8; 8];
-    let n = answers::put_answer(&mut out, 0, letter, answer);
-    io::write_all(STDOUT_FILENO, lines::front(&out, n));
-}
-
-pub fn print_packet(answer: Answer, room: &[u8; 260]) {
-    let mut out = [0u8; 784];
-    let n = answers::put_packet(&mut out, 0, answer, room);
-    io::write_all(STDOUT_FILENO, lines::front(&out, n));
+// The two bytes of a word, high byte first; 0 where they aren't there.
+pub fn number(bytes: &[u8], at: usize) -> u16 {
+    if bytes.len() < at + 2 {
+        return 0;
+    }
+    (bytes[at] as u16) * 256 + (bytes[at + 1] as u16)
 }
