@@ -1,72 +1,68 @@
--- The text of each answer, and that it fits.
+-- What is printed for each answer.
 -- Assumes nothing.
-use Prim.Native.Nat.{ℕ, _+_, _*_, _≤_}
+use Prim.Native.Nat.{ℕ, _+_, _≤_}
 use native.Mathlib.Omega.{arith}
-use mathlib.Core.Path.{_≡_, refl, sym, ap, _∙_}
-use mathlib.Core.List.{List, [], _∷_, map}
-use lib.ListN.{length, take, getD}
-use lib.Seq.{sets, ext-getD}
+use mathlib.Core.Path.{_≡_, refl, ap, _∙_}
+use mathlib.Core.Bool.{true, false}
+use mathlib.Core.List.{List, _++_, append-nil}
+use lib.ListN.{length, take, length-append, drop-of-length-le}
+use lib.Seq.{sets, sets-eq}
+use Rattle.rows.specs.Rows.{Said, refused, gave}
 use Rattle.rules.specs.declared.Refusal.{Refusal}
 use Rattle.rules.specs.declared.Answer.{Answer}
 use Rattle.rules.specs.declared.Answer.the-variants.{Refused, Done, Length, Word}
-use Rattle.rules.specs.Refusals.{numberOf, saidOf, Said}
-use Rattle.frames.proofs.Eight.{eight-at}
-use Rattle.lines.specs.Printed.{bytesLine, wordLine, bareLine, refusedLine}
-use Rattle.answers.specs.Answers.{saidText, packetText}
+use Rattle.rules.specs.Refusals.{Given, refusalNumber, answerSaid}
+use Rattle.rules.specs.World.{framesIn}
+use Rattle.frames.specs.declared.Frames.{Frames}
+use Rattle.items.proofs.Lists.{sets-join}
+use Rattle.items.specs.Printed.{bytesLine, wordLine, bareLine, refusedLine}
+use Rattle.answers.specs.Answers.{Form, saidLine}
 
 -- a text written at a place, with at most so many characters
 abbrev pub Written : List ℕ → ℕ → ℕ → ℕ → List ℕ → List ℕ → Type 0
 Written text most at to l m = (to ≡ at + length text) × ((m ≡ sets l at text) × (to ≤ at + most))
 
--- a line of bytes, by the bytes that it is to have
-pub bytes-written : (c most at to : ℕ) (l m part bs : List ℕ) → part ≡ bs → to ≡ at + length (bytesLine c part)
-    → m ≡ sets l at (bytesLine c part) → to ≤ at + most → Written (bytesLine c bs) most at to l m
-bytes-written c most at to l m part bs e et em h = rw (← e) (et, (em, h))
+-- under another name
+pub written-as : (x y : List ℕ) (most at to : ℕ) (l m : List ℕ) → x ≡ y → Written x most at to l m → Written y most at to l m
+written-as x y most at to l m e w = rw (← e) w
 
-module _ (c at to : ℕ) (l m : List ℕ) (a : Answer) where
-  pub said-refused : (r : Refusal) (n : ℕ) → a ≡ Refused r → n ≡ numberOf r → to ≡ at + 5 → m ≡ sets l at (refusedLine c n)
-      → Written (saidText c (saidOf a)) 7 at to l m
-  unfolding saidText saidOf refusedLine
-  said-refused r n ea en et em = rw ea (et, (em ∙ ap (λ (k : ℕ). sets l at (refusedLine c k)) en, omega arith))
+-- and with more allowed
+pub written-in : (x : List ℕ) (few most at to : ℕ) (l m : List ℕ) → few ≤ most → Written x few at to l m → Written x most at to l m
+written-in x few most at to l m h w = (w .0, (w .1 .0, omega (arith, w .1 .1)))
 
-  pub said-bare : a ≡ Done → to ≡ at + 2 → m ≡ sets l at (bareLine c) → Written (saidText c (saidOf a)) 7 at to l m
-  unfolding saidText saidOf bareLine
-  said-bare ea et em = rw ea (et, (em, omega arith))
+-- the line of each answer
+module _ (f : Form) (a : Answer) (bs : List ℕ) where
+  pub said-refused : (r : Refusal) (n : ℕ) → a ≡ Refused r → n ≡ refusalNumber r → refusedLine (f .letter) n ≡ saidLine f (answerSaid a) bs
+  unfolding saidLine answerSaid
+  said-refused r n e k = rw (e, k)
 
-  pub said-length : (n : ℕ) → a ≡ Length n → to ≡ at + 2 → m ≡ sets l at (bareLine c) → Written (saidText c (saidOf a)) 7 at to l m
-  unfolding saidText saidOf bareLine
-  said-length n ea et em = rw ea (et, (em, omega arith))
+  pub said-length : (n : ℕ) (part : List ℕ) → a ≡ Length n → part ≡ take n bs → bytesLine (f .letter) part ≡ saidLine f (answerSaid a) bs
+  unfolding saidLine answerSaid
+  said-length n part e k = rw (e, k)
 
-  pub said-word : (w : ℕ) → a ≡ Word w → to ≡ at + 7 → m ≡ sets l at (wordLine c w) → Written (saidText c (saidOf a)) 7 at to l m
-  unfolding saidText saidOf wordLine
-  said-word w ea et em = rw ea (et, (em, omega arith))
+  pub said-word : (w : ℕ) → a ≡ Word w → wordLine (f .letter) w ≡ saidLine f (answerSaid a) bs
+  unfolding saidLine answerSaid
+  said-word w e = rw e
 
-module _ (at to : ℕ) (room l m : List ℕ) (a : Answer) where
-  pub packet-length : (n : ℕ) (part : List ℕ) → a ≡ Length n → part ≡ take n room → to ≡ at + length (bytesLine 80 part)
-      → m ≡ sets l at (bytesLine 80 part) → to ≤ at + 784 → Written (packetText room (saidOf a)) 784 at to l m
-  unfolding packetText saidOf
-  packet-length n part ea ep et em h = rw ea (bytes-written 80 784 at to l m part (take n room) ep et em h)
+  pub said-listed : a ≡ Done → f .lists ≡ true → bytesLine (f .letter) bs ≡ saidLine f (answerSaid a) bs
+  unfolding saidLine answerSaid
+  said-listed e h = rw (e, h)
 
-  -- an answer without bytes is printed as any other call's
-  pub packet-other : (b : Answer) → a ≡ b → packetText room (saidOf b) ≡ saidText 80 (saidOf b) → Written (saidText 80 (saidOf b)) 7 at to l m
-      → Written (packetText room (saidOf a)) 784 at to l m
-  packet-other b e same w = rw (e, same) (w .0, (w .1 .0, omega (arith, w .1 .1)))
+  pub said-bare : a ≡ Done → f .lists ≡ false → bareLine (f .letter) ≡ saidLine f (answerSaid a) bs
+  unfolding saidLine answerSaid
+  said-bare e h = rw (e, h)
 
-pub refused-same : (room : List ℕ) (r : Refusal) → packetText room (saidOf (Refused r)) ≡ saidText 80 (saidOf (Refused r))
-unfolding packetText saidOf
-refused-same room r = refl
+-- two runs of eight fill sixteen places
+pub both-eight : (l a b : List ℕ) → length l ≡ 16 → length a ≡ 8 → length b ≡ 8 → sets (sets l 0 a) 8 b ≡ a ++ b
+both-eight l a b k h j =
+    let n : length (a ++ b) ≡ 16 = omega (arith, length-append a b) in
+    sets-join a b l 0 8 (omega arith)
+    ∙ sets-eq (a ++ b) l 0 (omega arith)
+    ∙ ap (λ (x : List ℕ). (a ++ b) ++ x) (drop-of-length-le l {i = 0 + length (a ++ b)} (omega arith))
+    ∙ append-nil (a ++ b)
 
-pub done-same : (room : List ℕ) → packetText room (saidOf Done) ≡ saidText 80 (saidOf Done)
-unfolding packetText saidOf
-done-same room = refl
-
-pub word-same : (room : List ℕ) (w : ℕ) → packetText room (saidOf (Word w)) ≡ saidText 80 (saidOf (Word w))
-unfolding packetText saidOf
-word-same room w = refl
-
--- eight bytes, one by one
-pub eight : (l : List ℕ) → length l ≡ 8
-    → getD l 0 0 ∷ getD l 1 0 ∷ getD l 2 0 ∷ getD l 3 0 ∷ getD l 4 0 ∷ getD l 5 0 ∷ getD l 6 0 ∷ getD l 7 0 ∷ [] ≡ l
-eight l h =
-    let f : ℕ → ℕ = λ k. getD l k 0 in
-    ext-getD 0 (map f (0 ∷ 1 ∷ 2 ∷ 3 ∷ 4 ∷ 5 ∷ 6 ∷ 7 ∷ [])) l (sym h) (λ i k. eight-at f i k)
+-- a refusal is printed whatever the frames
+pub frames-said : (f : Form) (s : Said Given) (g : Frames) → saidLine f s (g .an03 ++ g .an47) ≡ saidLine f s (framesIn s g)
+unfolding saidLine
+frames-said f (refused n) g = refl
+frames-said f (gave x) g = refl

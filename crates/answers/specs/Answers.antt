@@ -1,31 +1,54 @@
--- What is printed for what a call says, after the letter of its line.
+-- The line that is printed for what a call tells.
 -- Assumes nothing.
 use Prim.Native.Nat.{ℕ}
-use mathlib.Core.List.{List, _++_}
+use mathlib.Core.Bool.{Bool, true, false, cond}
+use mathlib.Core.List.{List}
 use lib.ListN.{take}
-use Rattle.frames.specs.declared.Frames.{Frames}
-use Rattle.pipe.specs.declared.Sent.{Sent}
-use Rattle.rules.specs.Refusals.{Said, refused, done, bytes, word}
-use Rattle.lines.specs.Printed.{bytesLine, wordLine, bareLine, refusedLine}
+use Rattle.rows.specs.Rows.{Said, refused, gave}
+use Rattle.rules.specs.Refusals.{Given, done, bytes, reads}
+use Rattle.rules.specs.World.{Told}
+use Rattle.items.specs.Characters.{question}
+use Rattle.items.specs.Printed.{bytesLine, wordLine, bareLine, refusedLine}
+use Rattle.lines.specs.Letters.{letterP, letterD, letterB, letterC, letterW, letterR, letterS, letterA, letterI, letterT, letterZ}
+use Rattle.lines.specs.Asked.{Asked, packet, deadline, put, command, dataIn, dataOut, status, samples, pipeByte, pipeTimeout, power, other}
 
--- "a refused call prints the letter, a space, `!` and the number"; a word is printed behind the letter; an answer of bytes has its own line
-unfoldable pub saidText : ℕ → Said → List ℕ
-saidText c (refused n) = refusedLine c n
-saidText c done = bareLine c
-saidText c (bytes n) = bareLine c
-saidText c (word w) = wordLine c w
+-- how a line is answered: behind which letter, and whether a call that is done lists the bytes that it gives
+pub record Form : Type 0 where
+  pub letter : ℕ
+  pub lists : Bool
 
--- "it prints `P` and the answer in the same form": the first bytes of the answer room
-unfoldable pub packetText : List ℕ → Said → List ℕ
-packetText room (refused n) = saidText 80 (refused n)
-packetText room done = saidText 80 done
-packetText room (bytes n) = bytesLine 80 (take n room)
-packetText room (word w) = saidText 80 (word w)
+abbrev pub form : ℕ → Bool → Form
+form c b = record { letter = c; lists = b }
 
--- "(AN03, then AN47)": the sixteen bytes of the two frames, behind `A`
-unfoldable pub framesText : Frames → List ℕ
-framesText f = bytesLine 65 (f .three ++ f .fortyseven)
+abbrev pub plain : ℕ → Form
+plain c = form c false
 
--- what the pipe sends, so many bytes of the array
-unfoldable pub sentText : ℕ → Sent → List ℕ
-sentText c s = bytesLine c (take (s .count) (s .bytes))
+abbrev pub listing : ℕ → Form
+listing c = form c true
+
+-- the letter of the line again; samples list their two frames, the pipe lists what it sends; `?` for a line that calls nothing
+unfoldable pub formOf : Asked → Form
+formOf (packet bs) = plain letterP
+formOf deadline = plain letterD
+formOf (put s bs) = plain letterB
+formOf (command w) = plain letterC
+formOf (dataIn w) = plain letterW
+formOf dataOut = plain letterR
+formOf status = plain letterS
+formOf (samples k ws) = listing letterA
+formOf (pipeByte b) = listing letterI
+formOf pipeTimeout = listing letterT
+formOf power = plain letterZ
+formOf other = plain question
+
+-- "a refused call prints the letter, a space, `!` and the number"; "the answer in the same form": the first bytes of the room; a word;
+-- the bytes that are listed, `-` for none; or the letter alone
+unfoldable pub saidLine : Form → Said Given → List ℕ → List ℕ
+saidLine f (refused n) bs = refusedLine (f .letter) n
+saidLine f (gave done) bs = cond (f .lists) (bytesLine (f .letter) bs) (bareLine (f .letter))
+saidLine f (gave (bytes n)) bs = bytesLine (f .letter) (take n bs)
+saidLine f (gave (reads w)) bs = wordLine (f .letter) w
+
+-- what a line that asks for a call prints
+unfoldable pub lineText : Asked → Told → List ℕ
+lineText a t = saidLine (formOf a) (t .said) (t .bytes)

@@ -1,18 +1,28 @@
 // What a call answers, printed.
 use frames::Frames;
+use items::append;
+use items::bare_line;
+use items::bytes_line;
+use items::front;
+use items::refused_line;
+use items::word_line;
 use pipe::Sent;
 use rules::Answer;
 use rules::Refusal;
 ghost use mathlib.Core.Path.{_≡_};
-ghost use Prim.Native.Nat.{_+_, _≤_, _<_};
+ghost use mathlib.Core.List.{[]};
+ghost use Prim.Native.Nat.{_+_, _*_, _≤_, _<_, max};
 ghost use lib.ListN.{length};
 ghost use lib.Seq.{sets};
-ghost use Rattle.rules.specs.Refusals.{numberOf, saidOf};
-ghost use Rattle.answers.specs.Answers.{saidText, packetText, framesText, sentText};
+ghost use Rattle.pipe.specs.Input.{sentBytes};
+ghost use Rattle.rules.specs.Refusals.{refusalNumber, answerSaid};
+ghost use Rattle.rules.specs.World.{framesIn};
+ghost use Rattle.lines.specs.Letters.{letterP, letterA};
+ghost use Rattle.answers.specs.Answers.{form, plain, listing, saidLine};
 
 fn number(refusal: Refusal) -> u8
-    ensures { λ r. ⌜ r ≡ numberOf refusal ⌝ }
-    ensures { λ r. ⌜ r < 10 ⌝ }
+    ensures { λ r. ⌜ r ≡ refusalNumber refusal ⌝ }
+    ensures { λ r. ⌜ r < 100 ⌝ }
 {
     match refusal {
         Refusal::Room => 1,
@@ -25,74 +35,77 @@ fn number(refusal: Refusal) -> u8
     }
 }
 
-// A refusal's number, a word, or the letter alone.
+// What a call says, behind a letter. One that lists its bytes prints them where it is done.
+fn put_line(
+    out: &mut [u8],
+    at: usize,
+    letter: u8,
+    lists: bool,
+    answer: Answer,
+    bytes: &[u8],
+) -> usize
+    requires { ⌜ at + max 7 (3 * length (now bytes) + 4) ≤ length (now out) ⌝ }
+    ensures { λ r. ⌜ r ≡ at + length (saidLine (form letter lists) (answerSaid answer) (now (bytes .entry))) ⌝ }
+    ensures { λ _. ⌜ now (out .exit) ≡ sets (now (out .entry)) at (saidLine (form letter lists) (answerSaid answer) (now (bytes .entry))) ⌝ }
+    ensures { λ r. ⌜ r ≤ at + max 7 (3 * length (now (bytes .entry)) + 4) ⌝ }
+{
+    match answer {
+        Answer::Refused(refusal) => refused_line(out, at, letter, number(refusal)),
+        Answer::Length(n) => bytes_line(out, at, letter, front(bytes, n)),
+        Answer::Word(word) => word_line(out, at, letter, word),
+        Answer::Done => {
+            if lists {
+                bytes_line(out, at, letter, bytes)
+            } else {
+                bare_line(out, at, letter)
+            }
+        }
+    }
+}
+
+// A call that gives no bytes.
 pub fn put_answer(out: &mut [u8], at: usize, letter: u8, answer: Answer) -> usize
     requires { ⌜ at + 7 ≤ length (now out) ⌝ }
-    ensures { λ r. ⌜ r ≡ at + length (saidText letter (saidOf answer)) ⌝ }
-    ensures { λ _. ⌜ now (out .exit) ≡ sets (now (out .entry)) at (saidText letter (saidOf answer)) ⌝ }
+    ensures { λ r. ⌜ r ≡ at + length (saidLine (plain letter) (answerSaid answer) []) ⌝ }
+    ensures { λ _. ⌜ now (out .exit) ≡ sets (now (out .entry)) at (saidLine (plain letter) (answerSaid answer) []) ⌝ }
     ensures { λ r. ⌜ r ≤ at + 7 ⌝ }
 {
-    match answer {
-        Answer::Refused(refusal) => lines::refused_line(out, at, letter, number(refusal)),
-        Answer::Done => lines::bare_line(out, at, letter),
-        Answer::Length(_) => lines::bare_line(out, at, letter),
-        Answer::Word(word) => lines::word_line(out, at, letter, word),
-    }
+    put_line(out, at, letter, false, answer, &[])
 }
 
-// A packet's answer: the first bytes of the room.
+// A packet, with its answer room.
 pub fn put_packet(out: &mut [u8], at: usize, answer: Answer, room: &[u8]) -> usize
     requires { ⌜ (length (now room) ≤ 260) × (at + 784 ≤ length (now out)) ⌝ }
-    ensures { λ r. ⌜ r ≡ at + length (packetText (now (room .entry)) (saidOf answer)) ⌝ }
-    ensures { λ _. ⌜ now (out .exit) ≡ sets (now (out .entry)) at (packetText (now (room .entry)) (saidOf answer)) ⌝ }
+    ensures { λ r. ⌜ r ≡ at + length (saidLine (plain letterP) (answerSaid answer) (now (room .entry))) ⌝ }
+    ensures { λ _. ⌜ now (out .exit) ≡ sets (now (out .entry)) at (saidLine (plain letterP) (answerSaid answer) (now (room .entry))) ⌝ }
     ensures { λ r. ⌜ r ≤ at + 784 ⌝ }
 {
-    match answer {
-        Answer::Length(n) => lines::bytes_line(out, at, 80, lines::front(room, n)),
-        Answer::Refused(refusal) => put_answer(out, at, 80, Answer::Refused(refusal)),
-        Answer::Done => put_answer(out, at, 80, Answer::Done),
-        Answer::Word(word) => put_answer(out, at, 80, Answer::Word(word)),
-    }
+    put_line(out, at, b'P', false, answer, room)
 }
 
-// The two frames, AN03 and then AN47.
-pub fn put_frames(out: &mut [u8], at: usize, frames: Frames) -> usize
+// A sample set, with its two frames: AN03 and then AN47.
+pub fn put_frames(out: &mut [u8], at: usize, answer: Answer, frames: Frames) -> usize
     requires { ⌜ at + 52 ≤ length (now out) ⌝ }
-    ensures { λ r. ⌜ r ≡ at + length (framesText frames) ⌝ }
-    ensures { λ _. ⌜ now (out .exit) ≡ sets (now (out .entry)) at (framesText frames) ⌝ }
+    ensures { λ r. ⌜ r ≡ at + length (saidLine (listing letterA) (answerSaid answer) (framesIn (answerSaid answer) frames)) ⌝ }
+    ensures { λ _. ⌜ now (out .exit) ≡ sets (now (out .entry)) at (saidLine (listing letterA) (answerSaid answer) (framesIn (answerSaid answer) frames)) ⌝ }
     ensures { λ r. ⌜ r ≤ at + 52 ⌝ }
 {
-    let a = frames.three;
-    let b = frames.fortyseven;
-    let all = [
-        a[0],
-        a[1],
-        a[2],
-        a[3],
-        a[4],
-        a[5],
-        a[6],
-        a[7],
-        b[0],
-        b[1],
-        b[2],
-        b[3],
-        b[4],
-        b[5],
-        b[6],
-        b[7],
-    ];
-    lines::bytes_line(out, at, 65, &all)
+    let an03 = frames.an03;
+    let an47 = frames.an47;
+    let mut both = [0u8; 16];
+    append(&mut both, 0, &an03);
+    append(&mut both, 8, &an47);
+    put_line(out, at, b'A', true, answer, &both)
 }
 
-// What the pipe sends.
-pub fn put_sent(out: &mut [u8], at: usize, letter: u8, sent: Sent) -> usize
+// A pipe call, with what it sends.
+pub fn put_sent(out: &mut [u8], at: usize, letter: u8, answer: Answer, sent: Sent) -> usize
     requires { ⌜ at + 28 ≤ length (now out) ⌝ }
-    ensures { λ r. ⌜ r ≡ at + length (sentText letter sent) ⌝ }
-    ensures { λ _. ⌜ now (out .exit) ≡ sets (now (out .entry)) at (sentText letter sent) ⌝ }
+    ensures { λ r. ⌜ r ≡ at + length (saidLine (listing letter) (answerSaid answer) (sentBytes sent)) ⌝ }
+    ensures { λ _. ⌜ now (out .exit) ≡ sets (now (out .entry)) at (saidLine (listing letter) (answerSaid answer) (sentBytes sent)) ⌝ }
     ensures { λ r. ⌜ r ≤ at + 28 ⌝ }
 {
     let bytes = sent.bytes;
     let count = sent.count;
-    lines::bytes_line(out, at, letter, lines::front(&bytes, count))
+    put_line(out, at, letter, true, answer, front(&bytes, count))
 }

@@ -7,7 +7,7 @@ fn digit(n: u8) -> u8
     requires { ⌜ n < 16 ⌝ }
     ensures { λ r. ⌜ r ≡ digitOf n ⌝ }
 {
-    if n < 10 { 48 + n } else { 55 + n }
+    if n < 10 { b'0' + n } else { b'A' - 10 + n }
 }
 
 pub fn byte(b: u8) -> [u8; 2]

@@ -9,8 +9,8 @@ use lib.Dec.{eqb}
 use lib.ListN.{length, take, drop, getD, drop-of-length-le}
 use borrow.Author.Tests.{ne-eqb}
 use Rattle.lines.specs.Cut.{before}
-use Rattle.lines.proofs.Choice.{split}
-use Rattle.lines.proofs.Lists.{next}
+use Rattle.rows.proofs.Bool.{split}
+use Rattle.items.proofs.Lists.{next}
 
 -- at a newline there are none
 pub at-newline : (t : List ℕ) (i : ℕ) → i < length t → getD t i 0 ≡ 10 → before (drop i t) ≡ 0

@@ -2,7 +2,7 @@
 -- Assumes nothing.
 use Prim.Native.Nat.{ℕ, _+_, _-_, _≤_, _<_}
 use native.Mathlib.Omega.{arith}
-use mathlib.Core.Path.{_≡_, refl, sym, ap, _∙_}
+use mathlib.Core.Path.{_≡_, refl, ap, _∙_}
 use mathlib.Core.Bool.{true, false, _&&_}
 use mathlib.Core.List.{List}
 use lib.ListN.{length, take, drop}
@@ -12,8 +12,8 @@ use borrow.Author.Tests.{le-leb, lt-leb, leb-true, eq-eqb, ne-eqb}
 use Rattle.lines.specs.declared.Cursor.{Cursor}
 use Rattle.lines.specs.declared.Found.{Found}
 use Rattle.lines.specs.declared.Found.the-variants.{Here, More}
-use Rattle.lines.specs.Cut.{before, heldOf, keptOf, lastOf, endOf, cutAt, cutOf, heldLine}
-use Rattle.lines.proofs.Choice.{split}
+use Rattle.lines.specs.Cut.{heldOf, keptOf, lastOf, endOf, cutAt, cutOf, heldLine}
+use Rattle.rows.proofs.Bool.{split}
 
 -- too long
 pub too-long : (line : List ℕ) (held : ℕ) (part : List ℕ) → 196606 < held + length part

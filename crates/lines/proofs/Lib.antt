@@ -1,11 +1,4 @@
-pub mod Choice
-pub mod Lists
 pub mod Before
 pub mod Held
-pub mod Run
 pub mod Cases
-pub mod Spelled
-pub mod Numerals
-pub mod Pairs
-pub mod Laws
 pub mod Forms

@@ -1,17 +1,19 @@
--- What a line of the console asks. The letters: P 80, D 68, B 66, C 67, W 87, R 82, S 83, A 65, I 73, T 84, Z 90; p 112, o 111.
+-- What a line of the console asks.
 -- Assumes nothing.
-use mathlib.Core.Bool.{Bool, false, _&&_, _||_, cond}
-use mathlib.Core.List.{List, [], _∷_}
+use mathlib.Core.Bool.{Bool, _&&_, _||_, cond}
+use mathlib.Core.List.{List, []}
 use Prim.Native.Nat.{ℕ}
 use lib.Dec.{ltb, eqb}
 use lib.ListN.{length, take, drop, getD}
 use Rattle.blocks.specs.declared.Store.{Store}
 use Rattle.blocks.specs.declared.Store.the-variants.{Priority, Ordinary}
-use Rattle.lines.specs.declared.Items.{Items}
-use Rattle.lines.specs.declared.Items.the-variants.{Good, Bad}
+use Rattle.items.specs.declared.Items.{Items}
+use Rattle.items.specs.declared.Items.the-variants.{Good, Bad}
+use Rattle.lines.specs.Letters.{letterP, letterD, letterB, letterC, letterW, letterR, letterS, letterA, letterI, letterT, letterZ, smallP, smallO}
 use Rattle.lines.specs.declared.Line.{Line}
 use Rattle.lines.specs.declared.Line.the-variants.{Packet, Deadline, Put, Command, Data, Read, Status, Samples, Byte, Timeout, Power, Other}
-use Rattle.lines.specs.Text.{Reading, reading, bytesIn, wordsIn, byteItem, wordItem}
+use Rattle.items.specs.Characters.{space}
+use Rattle.items.specs.Text.{Reading, bytesIn, wordsIn, byteItem, wordItem}
 
 -- a call with what it is given, a case for each line of the table; and every other line
 pub data Asked : Type 0 where
@@ -29,13 +31,17 @@ pub data Asked : Type 0 where
   other : Asked
 
 -- what the line asks, and the bytes and the words that are read of it
-pub record Told : Type 0 where
+pub record Asking : Type 0 where
   pub asked : Asked
   pub bytes : List ℕ
   pub words : List ℕ
 
-abbrev pub told : Asked → List ℕ → List ℕ → Told
-told a bs ws = record { asked = a; bytes = bs; words = ws }
+abbrev pub asking : Asked → List ℕ → List ℕ → Asking
+asking a bs ws = record { asked = a; bytes = bs; words = ws }
+
+-- any other line, of which nothing is read
+abbrev pub unasked : Asking
+unasked = asking other [] []
 
 -- a run of items that has to be whole
 abbrev pub wholly : Reading → (List ℕ → Asked) → Asked
@@ -48,64 +54,67 @@ oneByte t = cond (eqb (length t) 3) (byteItem (getD t 0 0) (getD t 1 0) (getD t 
 unfoldable pub oneWord : List ℕ → ℕ
 oneWord t = cond (eqb (length t) 5) (wordItem (getD t 0 0) (getD t 1 0) (getD t 2 0) (getD t 3 0) (getD t 4 0)) 65536
 
--- `P` bytes: what stands behind the letter is bytes. A line of any other letter is none
-unfoldable pub packetIn : List ℕ → Reading
-packetIn t = cond (eqb (getD t 0 0) 80) (bytesIn (drop 1 t)) (reading [] false)
+-- `P` bytes. A line of any other letter is none
+abbrev pub packing : Reading → Asking
+packing r = asking (wholly r packet) (r .values) []
+
+unfoldable pub packetIn : List ℕ → Asking
+packetIn t = cond (eqb (getD t 0 0) letterP) (packing (bytesIn (drop 1 t))) unasked
 
 -- `B p` bytes, `B o` bytes
 abbrev pub isPut : ℕ → List ℕ → Bool
-isPut c t = eqb (getD t 1 0) 32 && eqb (getD t 2 0) c
+isPut c t = eqb (getD t 1 0) space && eqb (getD t 2 0) c
 
-abbrev pub putting : Store → Reading → Told
-putting s r = told (wholly r (put s)) (r .values) []
+abbrev pub putting : Store → Reading → Asking
+putting s r = asking (wholly r (put s)) (r .values) []
 
-unfoldable pub putIn : List ℕ → Told
+unfoldable pub putIn : List ℕ → Asking
 putIn t =
-    cond (isPut 112 t) (putting Priority (bytesIn (drop 3 t)))
-    (cond (isPut 111 t) (putting Ordinary (bytesIn (drop 3 t)))
-    (told other [] []))
+    cond (isPut smallP t) (putting Priority (bytesIn (drop 3 t)))
+    (cond (isPut smallO t) (putting Ordinary (bytesIn (drop 3 t)))
+    unasked)
 
 -- `A` byte words
-abbrev pub sampling : ℕ → Reading → Told
-sampling check r = told (wholly r (samples check)) [] (r .values)
+abbrev pub sampling : ℕ → Reading → Asking
+sampling check r = asking (wholly r (samples check)) [] (r .values)
 
-unfoldable pub samplesIn : List ℕ → Told
+unfoldable pub samplesIn : List ℕ → Asking
 samplesIn t =
     cond (ltb (oneByte (take 3 (drop 1 t))) 256) (sampling (oneByte (take 3 (drop 1 t))) (wordsIn (drop 4 t)))
-    (told other [] [])
+    unasked
 
 -- the letters with nothing behind them: `D`, `R`, `S`, `T`, `Z`
-unfoldable pub bareOf : ℕ → Asked
-bareOf c =
-    cond (eqb c 68) deadline
-    (cond (eqb c 82) dataOut
-    (cond (eqb c 83) status
-    (cond (eqb c 84) pipeTimeout
-    (cond (eqb c 90) power
+unfoldable pub bareAsked : ℕ → Asked
+bareAsked c =
+    cond (eqb c letterD) deadline
+    (cond (eqb c letterR) dataOut
+    (cond (eqb c letterS) status
+    (cond (eqb c letterT) pipeTimeout
+    (cond (eqb c letterZ) power
     other))))
 
 -- `C` word, `W` word
-unfoldable pub wordOf : ℕ → ℕ → Asked
-wordOf c w = cond (ltb w 65536) (cond (eqb c 67) (command w) (dataIn w)) other
+unfoldable pub wordAsked : ℕ → ℕ → Asked
+wordAsked c w = cond (ltb w 65536) (cond (eqb c letterC) (command w) (dataIn w)) other
 
 -- `I` byte
-unfoldable pub byteOf : ℕ → Asked
-byteOf b = cond (ltb b 256) (pipeByte b) other
+unfoldable pub byteAsked : ℕ → Asked
+byteAsked b = cond (ltb b 256) (pipeByte b) other
 
 -- the letters with one item behind them, and the bare letters
-unfoldable pub shortOf : ℕ → List ℕ → Asked
-shortOf c t =
-    cond (eqb c 67 || eqb c 87) (wordOf c (oneWord t))
-    (cond (eqb c 73) (byteOf (oneByte t))
-    (cond (eqb (length t) 0) (bareOf c) other))
+unfoldable pub shortAsked : ℕ → List ℕ → Asked
+shortAsked c t =
+    cond (eqb c letterC || eqb c letterW) (wordAsked c (oneWord t))
+    (cond (eqb c letterI) (byteAsked (oneByte t))
+    (cond (eqb (length t) 0) (bareAsked c) other))
 
 -- "A line is a letter and items after one space each": the table, by the letter
-unfoldable pub lineOf : List ℕ → Told
+unfoldable pub lineOf : List ℕ → Asking
 lineOf t =
-    cond (eqb (getD t 0 0) 80) (told (wholly (packetIn t) packet) (packetIn t .values) [])
-    (cond (eqb (getD t 0 0) 66) (putIn t)
-    (cond (eqb (getD t 0 0) 65) (samplesIn t)
-    (told (shortOf (getD t 0 0) (drop 1 t)) [] [])))
+    cond (eqb (getD t 0 0) letterP) (packetIn t)
+    (cond (eqb (getD t 0 0) letterB) (putIn t)
+    (cond (eqb (getD t 0 0) letterA) (samplesIn t)
+    (asking (shortAsked (getD t 0 0) (drop 1 t)) [] [])))
 
 -- how the code says it: a run of bytes or words by its count, since the values lie in lent memory
 unfoldable pub sayLine : Asked → Line

@@ -6,17 +6,19 @@ use Prim.Native.Nat.{ℕ, suc, _+_, _-_, _≤_}
 use lib.Dec.{ltb, leb, eqb}
 use lib.ListN.{length, take, drop}
 use lib.Seq.{sets}
+use Rattle.items.specs.Characters.{newline}
 use Rattle.lines.specs.declared.Cursor.{Cursor}
 use Rattle.lines.specs.declared.Cut.{Cut}
 use Rattle.lines.specs.declared.Found.{Found}
 use Rattle.lines.specs.declared.Found.the-variants.{Here, Held, Long, More}
 
--- how many characters stand before the first newline (10); all of them where there is none
+-- how many characters stand before the first newline; all of them where there is none
 unfoldable pub before : List ℕ → ℕ
 before [] = 0
-before (c ∷ cs) = cond (eqb c 10) 0 (suc (before cs))
+before (c ∷ cs) = cond (eqb c newline) 0 (suc (before cs))
 
--- "A packet may have up to 65,535 bytes": `P` and three characters for each
+-- a limit of these programs and not of the pod: the longest line is `P` and 65,535 bytes of three characters each; a longer one, so a
+-- packet of 65,536 bytes and more, prints `?`
 abbrev pub longest : ℕ
 longest = 196606
 

@@ -1,4 +1,3 @@
-pub mod Text
+pub mod Letters
 pub mod Asked
-pub mod Printed
 pub mod Cut

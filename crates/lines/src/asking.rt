@@ -1,17 +1,16 @@
 // What a line asks.
-use crate::Items;
 use crate::Line;
-use crate::reading::byte_item;
-use crate::reading::bytes_in;
-use crate::reading::word_item;
-use crate::reading::words_in;
 use blocks::Store;
+use items::Items;
+use items::byte_item;
+use items::bytes_in;
+use items::word_item;
+use items::words_in;
 ghost use mathlib.Core.Path.{_≡_};
 ghost use Prim.Native.Nat.{_*_, _≤_};
 ghost use lib.ListN.{length};
 ghost use lib.Seq.{sets};
-ghost use Rattle.lines.specs.Text.{itemsOf};
-ghost use Rattle.lines.specs.Asked.{oneByte, oneWord, packetIn, putIn, samplesIn, bareOf, wordOf, byteOf, shortOf, lineOf, sayLine, counted};
+ghost use Rattle.lines.specs.Asked.{oneByte, oneWord, packetIn, putIn, samplesIn, bareAsked, wordAsked, byteAsked, shortAsked, lineOf, sayLine, counted};
 
 // Exactly one byte; 256 where the text is none.
 fn one_byte(text: &[u8]) -> u16
@@ -35,19 +34,28 @@ fn one_word(text: &[u8]) -> u32
     }
 }
 
-// The bytes of a `P` line; any other line is bad.
-pub fn packet_line(line: &[u8], bytes: &mut [u8]) -> Items
+// `P` and bytes.
+pub fn packet_line(line: &[u8], bytes: &mut [u8]) -> Line
     requires { ⌜ length (now line) ≤ 3 * length (now bytes) ⌝ }
-    ensures { λ r. ⌜ r ≡ itemsOf (packetIn (now (line .entry))) ⌝ }
-    ensures { λ _. ⌜ now (bytes .exit) ≡ sets (now (bytes .entry)) 0 (packetIn (now (line .entry)) .values) ⌝ }
+    ensures { λ r. ⌜ r ≡ sayLine (packetIn (now (line .entry)) .asked) ⌝ }
+    ensures { λ _. ⌜ now (bytes .exit) ≡ sets (now (bytes .entry)) 0 (packetIn (now (line .entry)) .bytes) ⌝ }
 {
     if line.len() == 0 {
-        return Items::Bad;
+        return Line::Other;
     }
-    if line[0] != 80 {
-        return Items::Bad;
+    if line[0] != b'P' {
+        return Line::Other;
     }
-    bytes_in(&line[1..], bytes)
+    packet_of(bytes_in(&line[1..], bytes))
+}
+
+fn packet_of(items: Items) -> Line
+    ensures { λ r. ⌜ r ≡ counted items Line.Packet ⌝ }
+{
+    match items {
+        Items::Good(n) => Line::Packet(n),
+        Items::Bad => Line::Other,
+    }
 }
 
 // `B p` or `B o`, and bytes.
@@ -59,13 +67,13 @@ fn put_line(line: &[u8], bytes: &mut [u8]) -> Line
     if line.len() < 3 {
         return Line::Other;
     }
-    if line[1] != 32 {
+    if line[1] != b' ' {
         return Line::Other;
     }
-    if line[2] == 112 {
+    if line[2] == b'p' {
         return put_of(Store::Priority, bytes_in(&line[3..], bytes));
     }
-    if line[2] == 111 {
+    if line[2] == b'o' {
         return put_of(Store::Ordinary, bytes_in(&line[3..], bytes));
     }
     Line::Other
@@ -105,32 +113,23 @@ fn samples_of(check: u8, items: Items) -> Line
     }
 }
 
-fn packet_of(items: Items) -> Line
-    ensures { λ r. ⌜ r ≡ counted items Line.Packet ⌝ }
-{
-    match items {
-        Items::Good(n) => Line::Packet(n),
-        Items::Bad => Line::Other,
-    }
-}
-
 // A letter with nothing behind it.
 fn bare(letter: u8) -> Line
-    ensures { λ r. ⌜ r ≡ sayLine (bareOf letter) ⌝ }
+    ensures { λ r. ⌜ r ≡ sayLine (bareAsked letter) ⌝ }
 {
-    if letter == 68 {
+    if letter == b'D' {
         return Line::Deadline;
     }
-    if letter == 82 {
+    if letter == b'R' {
         return Line::Read;
     }
-    if letter == 83 {
+    if letter == b'S' {
         return Line::Status;
     }
-    if letter == 84 {
+    if letter == b'T' {
         return Line::Timeout;
     }
-    if letter == 90 {
+    if letter == b'Z' {
         return Line::Power;
     }
     Line::Other
@@ -138,12 +137,12 @@ fn bare(letter: u8) -> Line
 
 // A letter and one item, or nothing.
 fn short(letter: u8, text: &[u8]) -> Line
-    ensures { λ r. ⌜ r ≡ sayLine (shortOf letter (now (text .entry))) ⌝ }
+    ensures { λ r. ⌜ r ≡ sayLine (shortAsked letter (now (text .entry))) ⌝ }
 {
-    if (letter == 67) | (letter == 87) {
+    if (letter == b'C') | (letter == b'W') {
         return word_of(letter, one_word(text));
     }
-    if letter == 73 {
+    if letter == b'I' {
         return byte_of(one_byte(text));
     }
     if text.len() == 0 {
@@ -155,12 +154,12 @@ fn short(letter: u8, text: &[u8]) -> Line
 
 // A `C` or a `W` with its word.
 fn word_of(letter: u8, word: u32) -> Line
-    ensures { λ r. ⌜ r ≡ sayLine (wordOf letter word) ⌝ }
+    ensures { λ r. ⌜ r ≡ sayLine (wordAsked letter word) ⌝ }
 {
     if word > 65535 {
         return Line::Other;
     }
-    if letter == 67 {
+    if letter == b'C' {
         Line::Command(word as u16)
     } else {
         Line::Data(word as u16)
@@ -169,7 +168,7 @@ fn word_of(letter: u8, word: u32) -> Line
 
 // An `I` with its byte.
 fn byte_of(byte: u16) -> Line
-    ensures { λ r. ⌜ r ≡ sayLine (byteOf byte) ⌝ }
+    ensures { λ r. ⌜ r ≡ sayLine (byteAsked byte) ⌝ }
 {
     if byte > 255 {
         Line::Other
@@ -189,13 +188,13 @@ pub fn read_line(line: &[u8], bytes: &mut [u8], words: &mut [u16]) -> Line
         return Line::Other;
     }
     let letter = line[0];
-    if letter == 80 {
-        return packet_of(packet_line(line, bytes));
+    if letter == b'P' {
+        return packet_line(line, bytes);
     }
-    if letter == 66 {
+    if letter == b'B' {
         return put_line(line, bytes);
     }
-    if letter == 65 {
+    if letter == b'A' {
         return samples_line(line, words);
     }
     short(letter, &line[1..])

@@ -2,11 +2,11 @@
 use crate::Cursor;
 use crate::Cut;
 use crate::Found;
+use items::append;
 ghost use mathlib.Core.Path.{_≡_};
 ghost use mathlib.Core.Bool.{true};
 ghost use Prim.Native.Nat.{ℕ, _+_, _≤_};
-ghost use lib.ListN.{length, take, drop};
-ghost use lib.Seq.{sets};
+ghost use lib.ListN.{length, drop};
 ghost use Rattle.lines.specs.Cut.{before, heldOf, keptOf, lastOf, cutOf, heldLine, foundIn};
 
 // The longest line: `P` and 65,535 bytes.
@@ -19,7 +19,7 @@ fn plain(part: &[u8]) -> bool
 {
     let mut all = true;
     for k in 0..16usize {
-        all = all & (part[k] >= 32);
+        all = all & (part[k] >= b' ');
     }
     all
 }
@@ -48,26 +48,12 @@ pub fn line_end(text: &[u8], from: usize) -> usize
 {
     let mut i = past_plain(text, from);
     while i < text.len() {
-        if text[i] == 10 {
+        if text[i] == b'\n' {
             return i;
         }
         i += 1;
     }
     i
-}
-
-// Copies a text to a place, and answers the place behind it.
-pub fn append(out: &mut [u8], at: usize, text: &[u8]) -> usize
-    requires { ⌜ at + length (now text) ≤ length (now out) ⌝ }
-    ensures { λ r. ⌜ r ≡ at + length (now (text .entry)) ⌝ }
-    ensures { λ _. ⌜ now (out .exit) ≡ sets (now (out .entry)) at (now (text .entry)) ⌝ }
-{
-    let mut i = 0;
-    while i < text.len() {
-        out[at + i] = text[i];
-        i += 1;
-    }
-    at + i
 }
 
 // Keeps a part of a line behind what came of it before, unless the line is too long.
@@ -83,21 +69,6 @@ pub fn hold(line: &mut [u8], held: usize, part: &[u8]) -> usize
         return LONGEST + 1;
     }
     append(line, held, part)
-}
-
-// The first characters of a text, so many, or all where it has fewer.
-pub fn front(text: &[u8], n: usize) -> &[u8]
-    ensures { λ r. ⌜ now r ≡ take n (now (text .entry)) ⌝ }
-    ensures { λ r. ⌜ length (now r) ≤ length (now (text .entry)) ⌝ }
-{
-    if n < text.len() { &text[..n] } else { text }
-}
-
-// The first words likewise.
-pub fn front_words(words: &[u16], n: usize) -> &[u16]
-    ensures { λ r. ⌜ now r ≡ take n (now (words .entry)) ⌝ }
-{
-    if n < words.len() { &words[..n] } else { words }
 }
 
 // The next line of a piece, from a place to its newline, behind what was held of it.

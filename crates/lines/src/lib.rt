@@ -1,31 +1,14 @@
-// The text of the programs' lines: bytes and words read and written, lines cut, read and printed.
+// Lines cut from what is read in pieces, and what each asks.
 mod asking;
 mod cutting;
-mod printing;
-mod reading;
 
 pub use asking::packet_line;
 pub use asking::read_line;
 use blocks::Store;
-pub use cutting::append;
-pub use cutting::front;
-pub use cutting::front_words;
 pub use cutting::hold;
 pub use cutting::last;
 pub use cutting::line_end;
 pub use cutting::next_line;
-pub use printing::bare_line;
-pub use printing::bytes_line;
-pub use printing::refused_line;
-pub use printing::word_line;
-pub use reading::bytes_in;
-pub use reading::words_in;
-
-// What a text of items is: so many values, or something else.
-pub enum Items {
-    Good(usize),
-    Bad,
-}
 
 // A line of the console's table. Bytes and words lie in lent memory, so many from its start.
 pub enum Line {

@@ -1,6 +1,6 @@
 -- The rows of the table.
 use native.Mathlib.Omega.{arith}
-use Rattle.rules.specs.Refusals.{numberOf}
+use Rattle.rules.specs.Refusals.{refusalNumber}
 use borrow.Author.Needs.{needs}
 use Rattle.answers.proofs.number.Statement.{statement}
 use Rattle.answers.proofs.number.Tie as tie
@@ -27,31 +27,31 @@ enum-told-7 : tie.Need-enum-told-7
 enum-told-7 c = search needs
 
 returns : tie.Need-returns
-unfolding numberOf
+unfolding refusalNumber
 returns c = (rw (c .enum-told .given .1), omega arith)
 
 returns-2 : tie.Need-returns-2
-unfolding numberOf
+unfolding refusalNumber
 returns-2 c = (rw (c .enum-told2 .given .1), omega arith)
 
 returns-3 : tie.Need-returns-3
-unfolding numberOf
+unfolding refusalNumber
 returns-3 c = (rw (c .enum-told3 .given .1), omega arith)
 
 returns-4 : tie.Need-returns-4
-unfolding numberOf
+unfolding refusalNumber
 returns-4 c = (rw (c .enum-told4 .given .1), omega arith)
 
 returns-5 : tie.Need-returns-5
-unfolding numberOf
+unfolding refusalNumber
 returns-5 c = (rw (c .enum-told5 .given .1), omega arith)
 
 returns-6 : tie.Need-returns-6
-unfolding numberOf
+unfolding refusalNumber
 returns-6 c = (rw (c .enum-told6 .given .1), omega arith)
 
 returns-7 : tie.Need-returns-7
-unfolding numberOf
+unfolding refusalNumber
 returns-7 c = (rw (c .enum-told7 .given .1), omega arith)
 
 pub number-spec : {M : Type 1} → statement M

@@ -1,104 +1,74 @@
--- Sixteen bytes are 50 characters.
+-- Two runs of eight bytes.
 use native.Mathlib.Omega.{arith}
 use denote.Ref.{now}
-use mathlib.Core.Path.{_≡_, ap₂}
-use mathlib.Core.List.{_++_}
-use lib.ListN.{length}
-use Rattle.answers.specs.Answers.{framesText}
-use Rattle.answers.proofs.Texts.{bytes-written, eight}
+use mathlib.Core.Path.{_≡_, refl, ap, _∙_}
+use mathlib.Core.List.{List, _++_}
+use Prim.Native.Nat.{ℕ}
+use lib.ListN.{length, replicate, length-append}
+use lib.Seq.{sets}
+use Rattle.rules.specs.Refusals.{answerSaid}
+use Rattle.lines.specs.Letters.{letterA}
+use Rattle.answers.specs.Answers.{listing, saidLine}
+use Rattle.answers.proofs.Texts.{written-as, both-eight, frames-said}
 use borrow.Author.Needs.{needs}
 use Rattle.answers.proofs.put_frames.Statement.{statement}
 use Rattle.answers.proofs.put_frames.Tie as tie
 
-array-read-t9 : tie.Need-array-read-t9
-array-read-t9 c = search needs
+slice-aggregate-append : tie.Need-slice-aggregate-append
+slice-aggregate-append c = search needs
 
-array-read-t12 : tie.Need-array-read-t12
-array-read-t12 c = search needs
+slice-aggregate-append-2 : tie.Need-slice-aggregate-append-2
+slice-aggregate-append-2 c = search needs
 
-array-read-t15 : tie.Need-array-read-t15
-array-read-t15 c = search needs
+append-requires : tie.Need-append-requires
+append-requires c κs = let x : length (c .before .before .before .before .before .args .frames .an03) ≡ 8 = search needs in omega arith
 
-array-read-t18 : tie.Need-array-read-t18
-array-read-t18 c = search needs
+slice-aggregate-append-3 : tie.Need-slice-aggregate-append-3
+slice-aggregate-append-3 c = search needs
 
-array-read-t21 : tie.Need-array-read-t21
-array-read-t21 c = search needs
+slice-aggregate-append-4 : tie.Need-slice-aggregate-append-4
+slice-aggregate-append-4 c = search needs
 
-array-read-t24 : tie.Need-array-read-t24
-array-read-t24 c = search needs
+append-requires-2 : tie.Need-append-requires-2
+append-requires-2 c κs =
+    let x : length (c .before .before .before .before .before .before .before .before .before .args .frames .an47) ≡ 8 = search needs in
+    let y : length (c .before .before .before .append .last .0) ≡ 16 = search needs in
+    omega arith
 
-array-read-t27 : tie.Need-array-read-t27
-array-read-t27 c = search needs
+slice-aggregate-put-line : tie.Need-slice-aggregate-put-line
+slice-aggregate-put-line c = search needs
 
-array-read-t30 : tie.Need-array-read-t30
-array-read-t30 c = search needs
-
-array-read-t33 : tie.Need-array-read-t33
-array-read-t33 c = search needs
-
-array-read-t36 : tie.Need-array-read-t36
-array-read-t36 c = search needs
-
-array-read-t39 : tie.Need-array-read-t39
-array-read-t39 c = search needs
-
-array-read-t42 : tie.Need-array-read-t42
-array-read-t42 c = search needs
-
-array-read-t45 : tie.Need-array-read-t45
-array-read-t45 c = search needs
-
-array-read-t48 : tie.Need-array-read-t48
-array-read-t48 c = search needs
-
-array-read-t51 : tie.Need-array-read-t51
-array-read-t51 c = search needs
-
-array-read-t54 : tie.Need-array-read-t54
-array-read-t54 c = search needs
-
-slice-aggregate-bytes-line : tie.Need-slice-aggregate-bytes-line
-slice-aggregate-bytes-line c = search needs
-
-bytes-line-requires : tie.Need-bytes-line-requires
-bytes-line-requires c κs = search needs
+put-line-requires : tie.Need-put-line-requires
+put-line-requires c κs = search needs
 
 same-length : tie.Need-same-length
 same-length c = search needs
 
 returns : tie.Need-returns
-unfolding framesText
 returns c =
-    let a = c .before .before .before .before .before .before .before .before .args in
-    let r = c .before .before .bytes-line in
-    let x : length (a .frames .three) ≡ 8 = search needs in
-    let y : length (a .frames .fortyseven) ≡ 8 = search needs in
-    bytes-written 65 52 (a .at) (r .result) (now (a .out)) (r .last .0) _ (a .frames .three ++ a .frames .fortyseven)
-    (ap₂ _++_ (eight (a .frames .three) x) (eight (a .frames .fortyseven) y))
-    (r .ensures .0) (r .ensures .1 .0) (omega (arith, r .ensures .1 .1))
+    let a = c .before .before .before .before .before .before .before .before .before .before .before .before .before .before .before .before .args in
+    let f = a .frames in
+    let r = c .before .before .put-line in
+    let x : length (f .an03) ≡ 8 = search needs in
+    let y : length (f .an47) ≡ 8 = search needs in
+    let zeros : List ℕ = replicate 16 0 in
+    let e : c .before .before .before .before .before .before .append2 .last .0 ≡ f .an03 ++ f .an47 =
+    c .before .before .before .before .before .before .append2 .ensures .1 ∙ ap (λ (l : List ℕ). sets l 8 (f .an47)) (c .before .before .before .before .before .before .before .before .before .before .append .ensures .1) ∙ both-eight zeros (f .an03) (f .an47) refl x y in
+    written-as _ _ 52 (a .at) (r .result) (now (a .out)) (r .last .0)
+    (ap (saidLine (listing letterA) (answerSaid (a .answer))) e ∙ frames-said (listing letterA) (answerSaid (a .answer)) f)
+    (r .ensures .0, (r .ensures .1 .0, omega (arith, r .ensures .1 .1, ap length e, x, y, length-append (f .an03) (f .an47))))
 
 pub put-frames-spec : {M : Type 1} → statement M
 put-frames-spec =
     tie.close
     (tie.spec
-    array-read-t9
-    array-read-t12
-    array-read-t15
-    array-read-t18
-    array-read-t21
-    array-read-t24
-    array-read-t27
-    array-read-t30
-    array-read-t33
-    array-read-t36
-    array-read-t39
-    array-read-t42
-    array-read-t45
-    array-read-t48
-    array-read-t51
-    array-read-t54
-    slice-aggregate-bytes-line
-    bytes-line-requires
+    slice-aggregate-append
+    slice-aggregate-append-2
+    append-requires
+    slice-aggregate-append-3
+    slice-aggregate-append-4
+    append-requires-2
+    slice-aggregate-put-line
+    put-line-requires
     same-length
     returns)

@@ -1,9 +1,12 @@
--- At most eight bytes are sent.
+-- At most eight bytes.
 use native.Mathlib.Omega.{arith}
 use denote.Ref.{now}
-use lib.ListN.{take}
-use Rattle.answers.specs.Answers.{sentText}
-use Rattle.answers.proofs.Texts.{bytes-written}
+use mathlib.Core.Path.{_≡_, ap}
+use lib.ListN.{length}
+use Rattle.pipe.specs.Input.{sentBytes}
+use Rattle.rules.specs.Refusals.{answerSaid}
+use Rattle.answers.specs.Answers.{listing, saidLine}
+use Rattle.answers.proofs.Texts.{written-as}
 use borrow.Author.Needs.{needs}
 use Rattle.answers.proofs.put_sent.Statement.{statement}
 use Rattle.answers.proofs.put_sent.Tie as tie
@@ -14,23 +17,23 @@ slice-aggregate-front c = search needs
 front-requires : tie.Need-front-requires
 front-requires c κs = search needs
 
-bytes-line-requires : tie.Need-bytes-line-requires
-bytes-line-requires c κs = omega (arith, c .front .ensures .1, slice-aggregate-front (c .before))
+put-line-requires : tie.Need-put-line-requires
+put-line-requires c κs = let x : length (c .before .before .before .before .before .args .sent .bytes) ≡ 8 = search needs in omega (arith, c .front .ensures .1)
 
 same-length : tie.Need-same-length
 same-length c = search needs
 
 returns : tie.Need-returns
-unfolding sentText
+unfolding sentBytes
 returns c =
     let a = c .before .before .before .before .before .before .before .before .args in
     let f = c .before .before .before .front in
-    let r = c .before .before .bytes-line in
-    bytes-written (a .letter) 28 (a .at) (r .result) (now (a .out)) (r .last .0) (now (f .result)) (take (a .sent .count) (a .sent .bytes))
-    (f .ensures .0) (r .ensures .0) (r .ensures .1 .0)
-    (omega (arith, r .ensures .1 .1, f .ensures .1, slice-aggregate-front (c .before .before .before .before)))
+    let r = c .before .before .put-line in
+    let x : length (a .sent .bytes) ≡ 8 = search needs in
+    written-as _ _ 28 (a .at) (r .result) (now (a .out)) (r .last .0)
+    (ap (saidLine (listing (a .letter)) (answerSaid (a .answer))) (f .ensures .0))
+    (r .ensures .0, (r .ensures .1 .0, omega (arith, r .ensures .1 .1, f .ensures .1)))
 
 pub put-sent-spec : {M : Type 1} → statement M
 put-sent-spec =
-    tie.close
-    (tie.spec slice-aggregate-front front-requires bytes-line-requires same-length returns)
+    tie.close (tie.spec slice-aggregate-front front-requires put-line-requires same-length returns)

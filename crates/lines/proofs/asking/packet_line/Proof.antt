@@ -1,11 +1,11 @@
 -- By the first character.
 use native.Mathlib.Omega.{arith}
-use mathlib.Core.Path.{_≡_, ap, _∙_, sym}
+use mathlib.Core.Path.{_≡_}
 use mathlib.Core.List.{[]}
-use lib.ListN.{length, getD}
+use lib.ListN.{getD}
 use denote.Ref.{now}
-use Rattle.lines.specs.Text.{itemsOf, bytesIn}
-use Rattle.lines.proofs.Cases.{empty, the-rest, packet-yes, packet-no, no-packet}
+use Rattle.lines.specs.Asked.{packetIn}
+use Rattle.lines.proofs.Cases.{empty, the-rest, no-bytes, packet-no, packet-is}
 use borrow.Author.Needs.{needs}
 use Rattle.lines.proofs.asking.packet_line.Statement.{statement}
 use Rattle.lines.proofs.asking.packet_line.Tie as tie
@@ -16,7 +16,7 @@ returns c =
     let t = now (a .line) in
     let z : t ≡ [] = empty t (c .if1 .taken) in
     let e : getD t 0 0 ≡ 0 = rw z in
-    no-packet t (now (a .bytes)) (packet-no t (λ h. omega arith))
+    no-bytes (packetIn t) (now (a .bytes)) (packet-no t (λ h. omega arith))
 
 shared-slice-read-if2 : tie.Need-shared-slice-read-if2
 shared-slice-read-if2 c = search needs
@@ -25,7 +25,7 @@ returns-2 : tie.Need-returns-2
 returns-2 c =
     let a = c .before .before .before .before .before .args in
     let t = now (a .line) in
-    no-packet t (now (a .bytes)) (packet-no t (c .if2 .taken))
+    no-bytes (packetIn t) (now (a .bytes)) (packet-no t (c .if2 .taken))
 
 sub-bytes-in : tie.Need-sub-bytes-in
 sub-bytes-in c = search needs
@@ -39,14 +39,19 @@ part-bytes-in-end c = search needs
 bytes-in-requires : tie.Need-bytes-in-requires
 bytes-in-requires c κs = search needs
 
+packet-of-requires : tie.Need-packet-of-requires
+packet-of-requires c κs = search needs
+
 same-length : tie.Need-same-length
 same-length c = search needs
 
 returns-3 : tie.Need-returns-3
 returns-3 c =
-    let a = c .before .before .before .before .before .before .before .before .before .before .args in
+    let a = c .before .before .before .before .before .before .before .before .before .before .before .args in
     let t = now (a .line) in
-    rw (packet-yes t (c .before .before .before .before .before .if2 .left)) (simp (the-rest t 1) at (c .before .before .bytes-in .ensures))
+    let read = simp (the-rest t 1) at (c .before .before .before .bytes-in .ensures) in
+    packet-is t (now (a .bytes)) (c .before .before .before .bytes-in .last .1 .0) (c .before .before .before .bytes-in .result) (c .packet-of .result)
+    (c .before .before .before .before .before .before .if2 .left) (read .0) (read .1) (c .packet-of .ensures)
 
 pub packet-line-spec : {M : Type 1} → statement M
 packet-line-spec =
@@ -59,5 +64,6 @@ packet-line-spec =
     part-bytes-in-start
     part-bytes-in-end
     bytes-in-requires
+    packet-of-requires
     same-length
     returns-3)

@@ -1,10 +1,10 @@
 -- By the second and the third character.
-use native.Mathlib.Omega.{arith}
 use denote.Ref.{now}
 use lib.ListN.{drop}
 use Rattle.blocks.specs.declared.Store.the-variants.{Priority, Ordinary}
-use Rattle.lines.specs.Text.{bytesIn}
-use Rattle.lines.proofs.Cases.{the-rest, put-none, put-short, put-far, put-priority, put-ordinary, no-put, put-is}
+use Rattle.items.specs.Text.{bytesIn}
+use Rattle.lines.specs.Asked.{putIn}
+use Rattle.lines.proofs.Cases.{the-rest, put-none, put-short, put-far, put-priority, put-ordinary, no-bytes, put-is}
 use borrow.Author.Needs.{needs}
 use Rattle.lines.proofs.asking.put_line.Statement.{statement}
 use Rattle.lines.proofs.asking.put_line.Tie as tie
@@ -12,7 +12,7 @@ use Rattle.lines.proofs.asking.put_line.Tie as tie
 returns : tie.Need-returns
 returns c =
     let a = c .before .before .before .args in
-    no-put (now (a .line)) (now (a .bytes)) (put-short (now (a .line)) (c .if1 .taken))
+    no-bytes (putIn (now (a .line))) (now (a .bytes)) (put-short (now (a .line)) (c .if1 .taken))
 
 shared-slice-read-if2 : tie.Need-shared-slice-read-if2
 shared-slice-read-if2 c = search needs
@@ -20,7 +20,7 @@ shared-slice-read-if2 c = search needs
 returns-2 : tie.Need-returns-2
 returns-2 c =
     let a = c .before .before .before .before .before .args in
-    no-put (now (a .line)) (now (a .bytes)) (put-far (now (a .line)) (c .if2 .taken))
+    no-bytes (putIn (now (a .line))) (now (a .bytes)) (put-far (now (a .line)) (c .if2 .taken))
 
 shared-slice-read-if3 : tie.Need-shared-slice-read-if3
 shared-slice-read-if3 c = search needs
@@ -83,7 +83,7 @@ returns-4 c =
 returns-5 : tie.Need-returns-5
 returns-5 c =
     let a = c .before .before .before .before .before .before .before .before .before .args in
-    no-put (now (a .line)) (now (a .bytes)) (put-none (now (a .line)) (c .before .before .if3 .left) (c .if4 .left))
+    no-bytes (putIn (now (a .line))) (now (a .bytes)) (put-none (now (a .line)) (c .before .before .if3 .left) (c .if4 .left))
 
 pub put-line-spec : {M : Type 1} → statement M
 put-line-spec =

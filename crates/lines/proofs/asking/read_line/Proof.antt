@@ -1,5 +1,4 @@
 -- By the letter.
-use native.Mathlib.Omega.{arith}
 use denote.Ref.{now}
 use Rattle.lines.proofs.Cases.{the-rest, line-empty, line-packet, line-put, line-samples, line-short}
 use borrow.Author.Needs.{needs}
@@ -17,18 +16,14 @@ shared-slice-read-letter c = search needs
 packet-line-requires : tie.Need-packet-line-requires
 packet-line-requires c κs = search needs
 
-packet-of-requires : tie.Need-packet-of-requires
-packet-of-requires c κs = search needs
-
 same-length : tie.Need-same-length
 same-length c = search needs
 
 returns-2 : tie.Need-returns-2
 returns-2 c =
-    let a = c .before .before .before .before .before .before .before .before .before .before .before .args in
-    let r = c .before .before .before .packet-line in
-    line-packet (now (a .line)) (now (a .bytes)) (r .last .1 .0) (now (a .words)) (r .result) (c .packet-of .result)
-    (c .before .before .before .before .before .if2 .taken) (r .ensures .0) (r .ensures .1) (c .packet-of .ensures)
+    let a = c .before .before .before .before .before .before .before .before .before .before .args in
+    let r = c .before .before .packet-line in
+    line-packet (now (a .line)) (now (a .bytes)) (r .last .1 .0) (now (a .words)) (r .result) (c .before .before .before .before .if2 .taken) (r .ensures .0) (r .ensures .1)
 
 put-line-requires : tie.Need-put-line-requires
 put-line-requires c κs = search needs
@@ -78,7 +73,6 @@ read-line-spec =
     returns
     shared-slice-read-letter
     packet-line-requires
-    packet-of-requires
     same-length
     returns-2
     put-line-requires

@@ -4,9 +4,9 @@ use Prim.Native.Nat.{ℕ, _<_}
 use mathlib.Core.Path.{sym, ap, _∙_}
 use denote.Ref.{now}
 use lib.ListN.{take, drop}
-use Rattle.lines.specs.Text.{wordsIn}
-use Rattle.lines.specs.Asked.{oneByte, sampling}
-use Rattle.lines.proofs.Cases.{the-rest, samples-yes, samples-no, samples-short, no-samples, samples-is}
+use Rattle.items.specs.Text.{wordsIn}
+use Rattle.lines.specs.Asked.{oneByte, sampling, samplesIn}
+use Rattle.lines.proofs.Cases.{the-rest, samples-yes, samples-no, samples-short, no-words, samples-is}
 use borrow.Author.Needs.{needs}
 use Rattle.lines.proofs.asking.samples_line.Statement.{statement}
 use Rattle.lines.proofs.asking.samples_line.Tie as tie
@@ -14,7 +14,7 @@ use Rattle.lines.proofs.asking.samples_line.Tie as tie
 returns : tie.Need-returns
 returns c =
     let a = c .before .before .before .args in
-    no-samples (now (a .line)) (now (a .words)) (samples-short (now (a .line)) (c .if1 .taken))
+    no-words (samplesIn (now (a .line))) (now (a .words)) (samples-short (now (a .line)) (c .if1 .taken))
 
 sub-one-byte : tie.Need-sub-one-byte
 sub-one-byte c = search needs
@@ -33,7 +33,7 @@ returns-2 c =
     let a = c .before .before .before .before .before .before .args in
     let t = now (a .line) in
     let over : 255 < oneByte (take 3 (drop 1 t)) = omega (arith, c .before .one-byte .ensures, c .if2 .taken) in
-    no-samples t (now (a .words)) (samples-no t over)
+    no-words (samplesIn t) (now (a .words)) (samples-no t over)
 
 cast-samples-of : tie.Need-cast-samples-of
 cast-samples-of c = search needs

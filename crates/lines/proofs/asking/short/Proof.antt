@@ -4,7 +4,7 @@ use Prim.Native.Nat.{ℕ}
 use lib.ListN.{length}
 use denote.Ref.{now}
 use borrow.Author.Tests.{ne-eqb}
-use Rattle.lines.specs.Asked.{wordOf, byteOf, shortOf, sayLine}
+use Rattle.lines.specs.Asked.{wordAsked, byteAsked, shortAsked, sayLine}
 use borrow.Author.Needs.{needs}
 use Rattle.lines.proofs.asking.short.Statement.{statement}
 use Rattle.lines.proofs.asking.short.Tie as tie
@@ -16,11 +16,11 @@ word-of-requires : tie.Need-word-of-requires
 word-of-requires c κs = search needs
 
 returns : tie.Need-returns
-unfolding shortOf
+unfolding shortAsked
 returns c =
     let a = c .before .before .before .before .args in
     rw (c .before .before .if1 .taken)
-    (c .word-of .ensures ∙ ap (λ (w : ℕ). sayLine (wordOf (a .letter) w)) (c .before .one-word .ensures))
+    (c .word-of .ensures ∙ ap (λ (w : ℕ). sayLine (wordAsked (a .letter) w)) (c .before .one-word .ensures))
 
 one-byte-requires : tie.Need-one-byte-requires
 one-byte-requires c κs = search needs
@@ -29,21 +29,21 @@ byte-of-requires : tie.Need-byte-of-requires
 byte-of-requires c κs = search needs
 
 returns-2 : tie.Need-returns-2
-unfolding shortOf
+unfolding shortAsked
 returns-2 c =
-    rw (c .before .before .if2 .taken) (c .byte-of .ensures ∙ ap (λ (b : ℕ). sayLine (byteOf b)) (c .before .one-byte .ensures))
+    rw (c .before .before .if2 .taken) (c .byte-of .ensures ∙ ap (λ (b : ℕ). sayLine (byteAsked b)) (c .before .one-byte .ensures))
 
 bare-requires : tie.Need-bare-requires
 bare-requires c κs = search needs
 
 returns-3 : tie.Need-returns-3
-unfolding shortOf
+unfolding shortAsked
 returns-3 c =
     let a = c .before .before .before .before .before .args in
     rw (c .before .before .before .if1 .left, ne-eqb (a .letter) 73 (c .before .before .if2 .left), c .before .if3 .taken) (c .bare .ensures)
 
 returns-4 : tie.Need-returns-4
-unfolding shortOf sayLine
+unfolding shortAsked sayLine
 returns-4 c =
     let a = c .before .before .before .before .args in
     rw (c .before .before .if1 .left, ne-eqb (a .letter) 73 (c .before .if2 .left), ne-eqb (length (now (a .text))) 0 (c .if3 .left))

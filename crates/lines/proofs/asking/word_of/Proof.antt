@@ -1,13 +1,13 @@
 -- By the word and the letter.
 use native.Mathlib.Omega.{arith}
 use borrow.Author.Tests.{ne-eqb, lt-ltb, le-ltb}
-use Rattle.lines.specs.Asked.{wordOf, sayLine}
+use Rattle.lines.specs.Asked.{wordAsked, sayLine}
 use borrow.Author.Needs.{needs}
 use Rattle.lines.proofs.asking.word_of.Statement.{statement}
 use Rattle.lines.proofs.asking.word_of.Tie as tie
 
 returns : tie.Need-returns
-unfolding wordOf sayLine
+unfolding wordAsked sayLine
 returns c = rw (le-ltb (c .before .args .word) 65536 (omega arith))
 
 cast-t5 : tie.Need-cast-t5
@@ -17,11 +17,11 @@ cast-t6 : tie.Need-cast-t6
 cast-t6 c = search needs
 
 returns-2 : tie.Need-returns-2
-unfolding wordOf sayLine
+unfolding wordAsked sayLine
 returns-2 c = rw (lt-ltb (c .before .before .args .word) 65536 (omega arith), c .if2 .taken)
 
 returns-3 : tie.Need-returns-3
-unfolding wordOf sayLine
+unfolding wordAsked sayLine
 returns-3 c = rw (lt-ltb (c .before .before .args .word) 65536 (omega arith), ne-eqb (c .before .before .args .letter) 67 (c .if2 .left))
 
 pub word-of-spec : {M : Type 1} → statement M

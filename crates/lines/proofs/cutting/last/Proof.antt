@@ -1,6 +1,4 @@
 -- By the length.
-use native.Mathlib.Omega.{arith}
-use mathlib.Core.Path.{refl}
 use borrow.Author.Tests.{lt-ltb, le-ltb}
 use Rattle.lines.specs.Cut.{lastOf}
 use Rattle.lines.proofs.cutting.last.Statement.{statement}

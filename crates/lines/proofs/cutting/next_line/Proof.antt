@@ -3,12 +3,9 @@ use native.Mathlib.Omega.{arith}
 use Prim.Native.Nat.{_-_}
 use lib.ListN.{length, take, drop}
 use denote.Ref.{now}
-use mathlib.Core.Bool.{true, _&&_}
-use mathlib.Core.Path.{_≡_}
 use lib.Dec.{ltb, eqb}
 use borrow.Author.Tests.{ltb-true}
-use Rattle.lines.specs.Cut.{heldOf}
-use Rattle.lines.proofs.Choice.{and-left}
+use Rattle.rows.proofs.Bool.{and-left}
 use Rattle.lines.proofs.Held.{held-most, here-is, more-is, held-is}
 use borrow.Author.Needs.{needs}
 use Rattle.lines.proofs.cutting.next_line.Statement.{statement}

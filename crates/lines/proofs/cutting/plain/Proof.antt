@@ -1,6 +1,6 @@
 -- No newline stands among the characters that were looked at, as long as all of them are at or above the space.
 -- Assumes nothing.
-use Prim.Native.Nat.{ℕ, _≤_, _-_, _+_}
+use Prim.Native.Nat.{_≤_, _-_, _+_}
 use native.Mathlib.Omega.{arith}
 use mathlib.Core.Bool.{true}
 use mathlib.Core.Path.{_≡_}
@@ -10,7 +10,7 @@ use denote.Ref.{now}
 use borrow.Author.Tests.{leb-true}
 use Rattle.lines.specs.Cut.{before}
 use Rattle.lines.proofs.Before.{past, none-left}
-use Rattle.lines.proofs.Choice.{and-left, and-right}
+use Rattle.rows.proofs.Bool.{and-left, and-right}
 use Rattle.lines.proofs.cutting.plain.Statement.{statement}
 use Rattle.lines.proofs.cutting.plain.Tie as tie
 

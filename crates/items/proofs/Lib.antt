@@ -1,0 +1,6 @@
+pub mod Lists
+pub mod Run
+pub mod Spelled
+pub mod Numerals
+pub mod Pairs
+pub mod Laws

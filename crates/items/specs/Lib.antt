@@ -1,0 +1,3 @@
+pub mod Characters
+pub mod Text
+pub mod Printed
