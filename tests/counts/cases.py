@@ -46,6 +46,7 @@ LOAD_64 = bytes([0x0C, 0x40])
 READ_64 = bytes([0xCC, 0x40])
 STARTS = bytes([0x00, 0x01])
 EVEN = NONE = bytes(2)
+BLOCK = bytes(range(256))
 
 PACKETS = (
     Case("packet 0x96, 260 bytes of answer", "P", DATA, 128),
@@ -73,12 +74,12 @@ TABLES = (
     Case("data word in, the last of a load of 64", "W", LOAD_64 + NONE, few=63, many=64),
 )
 OTHERS = (
-    Case("put", "B", few=28, many=128),
+    Case("put", "B", BLOCK, few=28, many=128),
     Case("sample set", "A"),
     Case("pipe byte, the eighth", "I", few=7, many=8),
     Case("pipe timeout with seven gathered", "T", few=7, many=8),
     Case("deadline", "D", NONE + NONE),
 )
 FLAT = tuple(Case(f"packet 0x96, {n} waiting", "P", DATA, n) for n in (1, 16, 64, 128)) + tuple(
-    Case(f"put, behind {n}", "B", waiting=n, few=0, many=10) for n in (0, 64, 118)
+    Case(f"put, behind {n}", "B", BLOCK, n, few=0, many=10) for n in (0, 64, 118)
 )

@@ -1,4 +1,5 @@
-// What may be repeated: a letter for each call, and the calls that give the same together.
+// What may be repeated: a letter for each call, and calls that give the same together.
+use crate::setup::number;
 use blocks::Store;
 use rules::Called;
 use rules::Passed;
@@ -18,22 +19,21 @@ pub enum Word {
     Status,
 }
 
+pub enum Shown {
+    Samples,
+    Sum,
+}
+
 pub enum Call {
     Other,
-    Sum,
-    Samples,
-    Byte,
-    Timeout,
     Port(Port),
     Word(Word),
+    Pipe(bool),
+    Shown(Shown),
 }
 
 pub fn call_of(letter: u8) -> Call {
     match letter {
-        b'K' => Call::Sum,
-        b'A' => Call::Samples,
-        b'I' => Call::Byte,
-        b'T' => Call::Timeout,
         b'P' => Call::Port(Port::Packet),
         b'B' => Call::Port(Port::Put),
         b'D' => Call::Port(Port::Deadline),
@@ -41,6 +41,10 @@ pub fn call_of(letter: u8) -> Call {
         b'W' => Call::Word(Word::In),
         b'R' => Call::Word(Word::Out),
         b'S' => Call::Word(Word::Status),
+        b'I' => Call::Pipe(false),
+        b'T' => Call::Pipe(true),
+        b'A' => Call::Shown(Shown::Samples),
+        b'K' => Call::Shown(Shown::Sum),
         _ => Call::Other,
     }
 }
@@ -49,7 +53,6 @@ pub fn ported(
     port: Port,
     pod: Pod,
     bytes: &[u8],
-    block: &[u8],
     room: &mut [u8; 260],
     priority: &[u8; 4096],
     ordinary: &mut [u8; 32768],
@@ -59,7 +62,7 @@ pub fn ported(
 ) -> Called {
     match port {
         Port::Packet => pod::packet(pod, bytes, room, priority, ordinary, five, six, seven),
-        Port::Put => pod::put(pod, Store::Ordinary, ordinary, block),
+        Port::Put => pod::put(pod, Store::Ordinary, ordinary, bytes),
         Port::Deadline => pod::deadline(pod),
     }
 }
@@ -92,10 +95,31 @@ pub fn worded(
     }
 }
 
-// Each eighth call is a timeout, which finds seven bytes gathered, or there is none.
+// Where there are timeouts each eighth call is one, and finds seven bytes gathered.
 pub fn passed(pod: Pod, byte: u8, turn: usize, timeouts: bool) -> Passed {
     if timeouts & (turn % 8 == 7) {
         return pod::pipe_timeout(pod);
     }
     pod::pipe_byte(pod, byte)
+}
+
+// A byte goes in, and something of what the call gives comes back.
+pub fn value_of(
+    kind: Shown,
+    pod: Pod,
+    byte: u8,
+    samples: &[u16; 128],
+    message: &mut [u8; 258],
+) -> u16 {
+    match kind {
+        Shown::Samples => {
+            let framed = pod::samples(pod, byte % 32, samples);
+            let frames = framed.frames;
+            number(0, frames.an03[7] / 4)
+        }
+        Shown::Sum => {
+            message[0] = byte;
+            crc::crc_of(message)
+        }
+    }
 }

@@ -1,15 +1,15 @@
 // One call, repeated: what two runs differ by, that differ in the number of calls alone, is what those calls cost.
 //
-// Input is a line: a letter of the console's table, or `K` for the CRC of a message of 258 bytes, and bytes: how many
-// blocks wait in the ordinary store, the number of calls, high byte first, and what is handed in: a packet, or for the
-// table words two command words, one that is sent first and one that is repeated. The last answer is printed, and `?`
-// for any other line.
+// Input is a line: a letter of the console's table, or `K` for the CRC of 258 bytes, and bytes: how many blocks wait in
+// the ordinary store, the number of calls, high byte first, and what is handed in: a packet or a block, or for the table
+// words two command words, one that is sent first and one that is repeated. The last answer is printed, and `?` for any
+// other line.
 mod calls;
 mod setup;
 mod turns;
 
 use crate::calls::Call;
-use crate::calls::Port;
+use crate::setup::number;
 use items::Items;
 use libc::STDIN_FILENO;
 use libc::STDOUT_FILENO;
@@ -36,11 +36,12 @@ fn repeat(letter: u8, call: Call, given: &[u8]) {
     if given.len() < 3 {
         return other();
     }
-    let waiting = given[0] as usize;
-    let times = setup::number(given, 1) as usize;
+    let waiting = number(0, given[0]) as usize;
+    let times = number(given[1], given[2]) as usize;
+    let bytes = &given[3..];
     let mut room = [0u8; 260];
-    let answer = turns::repeated(call, times, setup::awake(waiting), &given[3..], &mut room);
-    if let Call::Port(Port::Packet) = call {
+    let answer = turns::prepared(call, times, setup::awake(waiting), bytes, &mut room);
+    if letter == b'P' {
         return print_packet(answer, &room);
     }
     print(letter, answer);
@@ -57,6 +58,9 @@ fn main() {
     }
     let letter = line[0];
     let call = calls::call_of(letter);
+    if let Call::Other = call {
+        return other();
+    }
     match items::bytes_in(&line[1..end], &mut given) {
         Items::Good(count) => repeat(letter, call, items::front(&given, count)),
         Items::Bad => other(),

@@ -22,10 +22,14 @@ pub fn fill(bytes: &mut [u8]) {
     }
 }
 
-// The two bytes of a word, high byte first; 0 where they aren't there.
-pub fn number(bytes: &[u8], at: usize) -> u16 {
-    if bytes.len() < at + 2 {
-        return 0;
+pub fn number(high: u8, low: u8) -> u16 {
+    (high as u16) * 256 + (low as u16)
+}
+
+// The two words at the start, or 0 and 0.
+pub fn two_words(bytes: &[u8]) -> [u16; 2] {
+    if bytes.len() < 4 {
+        return [0, 0];
     }
-    (bytes[at] as u16) * 256 + (bytes[at + 1] as u16)
+    [number(bytes[0], bytes[1]), number(bytes[2], bytes[3])]
 }
