@@ -90,10 +90,16 @@ static size_t receive(struct pod *p, struct ring *ring, uint32_t remaining, enum
     return close_answer(room, 258);
 }
 
+/* With -DCALLED the compiler knows nothing of the caller, as with a call that firmware makes. */
+#ifdef CALLED
+#define FORM __attribute__((noipa))
+#else
+#define FORM __attribute__((noinline)) static
+#endif
+
 /* The length of the answer, or less than 0 for a refused call. The other commands are left out: they cost nothing here. */
-__attribute__((noinline)) static int packet(struct pod *p, const uint8_t *bytes, size_t n, uint8_t *room, size_t rooms,
-                                            const uint8_t *priority, size_t priorities, const uint8_t *ordinary,
-                                            size_t ordinaries, size_t fives, size_t sixes, size_t sevens)
+FORM int packet(struct pod *p, const uint8_t *bytes, size_t n, uint8_t *room, size_t rooms, const uint8_t *priority,
+                size_t priorities, const uint8_t *ordinary, size_t ordinaries, size_t fives, size_t sixes, size_t sevens)
 {
     if (rooms < 260)
         return -1;

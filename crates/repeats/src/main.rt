@@ -1,60 +1,50 @@
 // One call, repeated: what two runs differ by, that differ in the number of calls alone, is what those calls cost.
 //
-// Input is a line: a letter of the console's table, or `K` for the CRC of a message of 258 bytes, and bytes: how many
-// blocks wait in the ordinary store, the number of calls, high byte first, and what is handed in: a packet, or for the
-// table words two command words, one that is sent first and one that is repeated. The last answer is printed, and `?`
-// for any other line.
-mod packets_in;
-mod pipe_bytes;
+// Input is a line: a letter of the console's table, or `K` for the CRC of 258 bytes, and bytes: how many blocks wait in
+// the ordinary store, the number of calls, high byte first, and what is handed in: a packet or a block, or for the table
+// words two command words, one that is sent first and one that is repeated. The last answer is printed, and `?` for any
+// other line.
+mod calls;
 mod setup;
-mod table_words;
+mod turns;
 
+use crate::calls::Call;
+use crate::setup::number;
+use items::Items;
 use libc::STDIN_FILENO;
-use lines::Items;
+use libc::STDOUT_FILENO;
 use rules::Answer;
+
+fn print(letter: u8, answer: Answer) {
+    let mut out = [0u8; 8];
+    let n = answers::put_answer(&mut out, 0, letter, answer);
+    io::write_all(STDOUT_FILENO, items::front(&out, n));
+}
+
+fn print_packet(answer: Answer, room: &[u8; 260]) {
+    let mut out = [0u8; 784];
+    let n = answers::put_packet(&mut out, 0, answer, room);
+    io::write_all(STDOUT_FILENO, items::front(&out, n));
+}
 
 // Any other line.
 fn other() {
-    setup::print(b'?', Answer::Done);
+    print(b'?', Answer::Done);
 }
 
-fn order(letter: u8, given: &[u8]) {
+fn repeat(letter: u8, call: Call, given: &[u8]) {
     if given.len() < 3 {
         return other();
     }
     let waiting = number(0, given[0]) as usize;
-    let calls = number(given[1], given[2]) as usize;
-    let rest = &given[3..];
-    match letter {
-        b'K' => packets_in::crc(calls),
-        b'P' => packets_in::packet(waiting, calls, rest),
-        b'B' => packets_in::put(waiting, calls),
-        b'A' => pipe_bytes::samples(calls),
-        b'I' => pipe_bytes::bytes(letter, calls),
-        b'T' => pipe_bytes::bytes(letter, calls),
-        _ => table_word(letter, calls, rest),
+    let times = number(given[1], given[2]) as usize;
+    let bytes = &given[3..];
+    let mut room = [0u8; 260];
+    let answer = turns::prepared(call, times, setup::awake(waiting), bytes, &mut room);
+    if letter == b'P' {
+        return print_packet(answer, &room);
     }
-}
-
-fn number(high: u8, low: u8) -> u16 {
-    (high as u16) * 256 + (low as u16)
-}
-
-// The table word port, behind a command word.
-fn table_word(letter: u8, calls: usize, given: &[u8]) {
-    if given.len() < 4 {
-        return other();
-    }
-    let opening = number(given[0], given[1]);
-    let word = number(given[2], given[3]);
-    match letter {
-        b'C' => table_words::command_word(opening, calls, word),
-        b'W' => table_words::data_in(opening, calls),
-        b'R' => table_words::data_out(opening, calls),
-        b'S' => table_words::status_word(calls),
-        b'D' => table_words::deadline(calls),
-        _ => other(),
-    }
+    print(letter, answer);
 }
 
 fn main() {
@@ -67,8 +57,12 @@ fn main() {
         return other();
     }
     let letter = line[0];
-    match lines::bytes_in(&line[1..end], &mut given) {
-        Items::Good(count) => order(letter, lines::front(&given, count)),
+    let call = calls::call_of(letter);
+    if let Call::Other = call {
+        return other();
+    }
+    match items::bytes_in(&line[1..end], &mut given) {
+        Items::Good(count) => repeat(letter, call, items::front(&given, count)),
         Items::Bad => other(),
     }
 }

@@ -1,16 +1,10 @@
-// The pod that the calls start from, and the printing of the last answer.
+// What the calls start from.
 use blocks::Ring;
-use libc::STDOUT_FILENO;
-use rules::Answer;
 use rules::Pod;
 
 // Initialised, with blocks waiting in the ordinary store, and as many still to be asked for as there can be.
 pub fn awake(waiting: usize) -> Pod {
-    let mut five = [0u16; 64];
-    let mut six = [0u16; 128];
-    let mut seven = [0u16; 64];
-    let called = pod::power_on(&mut five, &mut six, &mut seven);
-    let mut pod = called.pod;
+    let mut pod = commands::fresh_pod();
     pod.initialised = true;
     pod.fields.memorylimit = 0xFFFF_FFFF;
     pod.fields.memoryremaining = 0xFFFF_FFFF;
@@ -28,14 +22,14 @@ pub fn fill(bytes: &mut [u8]) {
     }
 }
 
-pub fn print(letter: u8, answer: Answer) {
-    let mut out = [0u8; 8];
-    let n = answers::put_answer(&mut out, 0, letter, answer);
-    io::write_all(STDOUT_FILENO, lines::front(&out, n));
+pub fn number(high: u8, low: u8) -> u16 {
+    (high as u16) * 256 + (low as u16)
 }
 
-pub fn print_packet(answer: Answer, room: &[u8; 260]) {
-    let mut out = [0u8; 784];
-    let n = answers::put_packet(&mut out, 0, answer, room);
-    io::write_all(STDOUT_FILENO, lines::front(&out, n));
+// The two words at the start, or 0 and 0.
+pub fn two_words(bytes: &[u8]) -> [u16; 2] {
+    if bytes.len() < 4 {
+        return [0, 0];
+    }
+    [number(bytes[0], bytes[1]), number(bytes[2], bytes[3])]
 }
