@@ -80,7 +80,7 @@ fn piped(passed: Passed, letter: u8, out: &mut [u8; 65536], at: usize) -> Spoken
 }
 
 // A table word leaves all of the pod but its port.
-fn spoken(pod: Pod, worded: Worded) -> Called {
+fn ported(pod: Pod, worded: Worded) -> Called {
     let answer = worded.answer;
     let words = worded.words;
     let mut next = pod;
@@ -111,10 +111,10 @@ fn call(
             Store::Priority => pod::put(pod, which, priority, items::front(bytes, n)),
             Store::Ordinary => pod::put(pod, which, ordinary, items::front(bytes, n)),
         },
-        Line::Command(word) => spoken(pod, pod::command_word(pod, word, five, six, seven)),
-        Line::Data(word) => spoken(pod, pod::data_in(pod, word, load, five, six, seven)),
-        Line::Read => spoken(pod, pod::data_out(pod, five, six, seven)),
-        Line::Status => spoken(pod, pod::status_word(pod)),
+        Line::Command(word) => ported(pod, pod::command_word(pod, word, five, six, seven)),
+        Line::Data(word) => ported(pod, pod::data_in(pod, word, load, five, six, seven)),
+        Line::Read => ported(pod, pod::data_out(pod, five, six, seven)),
+        Line::Status => ported(pod, pod::status_word(pod)),
         Line::Power => pod::power_on(pod, five, six, seven),
         _ => Called {
             answer: Answer::Done,
