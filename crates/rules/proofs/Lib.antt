@@ -18,7 +18,9 @@ pub mod Replied
 pub mod Asked
 pub mod Sound
 pub mod Answered
+pub mod Numbered
 pub mod Checked
+pub mod Judged
 pub mod WordsAlike
 pub mod Twins
 pub mod Said

@@ -2,6 +2,7 @@
 -- Assumes nothing.
 use Rattle.rules.specs.Whole.{Whole}
 use Rattle.rules.proofs.Answered.{always-answered, lowest-first, refused-unchanged}
+use Rattle.rules.proofs.Numbered.{rows-exactly}
 use Rattle.rules.proofs.Sound.{kept-sound}
 use Rattle.rules.proofs.LoadWhole.{load-whole}
 use Rattle.rules.proofs.LoadCut.{load-cut}
@@ -10,6 +11,7 @@ use Rattle.rules.proofs.NoOther.{tables-only}
 use Rattle.rules.proofs.MessageError.{message-error, error-is-history, status-word-shows}
 use Rattle.rules.proofs.PortOnly.{port-only, places-only}
 use Rattle.rules.proofs.Checked.{packet-answered, opens-exactly, damage, damage-answered, error-unchanged}
+use Rattle.rules.proofs.Judged.{checks-exactly}
 use Rattle.rules.proofs.Blocks.{blocks-are-history}
 use Rattle.rules.proofs.Asked.{receive-is-history, status-is-history, read-is-written}
 use Rattle.rules.proofs.Flow.{pipe-is-history}
@@ -23,6 +25,7 @@ whole =
     record {
       always-answered = always-answered;
       lowest-first = lowest-first;
+      rows-exactly = rows-exactly;
       refused-unchanged = refused-unchanged;
       kept-sound = kept-sound;
       load-whole = load-whole;
@@ -37,6 +40,7 @@ whole =
       port-only = port-only;
       places-only = places-only;
       packet-answered = packet-answered;
+      checks-exactly = checks-exactly;
       opens-exactly = opens-exactly;
       damage = damage;
       damage-answered = damage-answered;

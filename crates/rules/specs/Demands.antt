@@ -32,7 +32,9 @@ use Rattle.rules.specs.Families.{WordCall, command, dataIn, dataOut, sta
 use Rattle.rules.specs.World.{World, withPod, Call, packet, word, samples, roomOf, told, stepped, answering, isAnswered, isRefused, step, rowsOf, next, final, run, tells, powered}
 use Rattle.rules.specs.History.{events, eventOf, fold, succeeded, errored, Flow, noFlow, flowBy, sentBy}
 use Rattle.rules.specs.Replies.{awakeFrom, waitingFrom, statusFrom, readAnswered, receivedFrom, framesFrom}
-use Rattle.rules.specs.Checks.{Answers, damaged}
+use Rattle.rules.specs.Checks.{Succeeds, Answers, damaged}
+use Rattle.rules.specs.Judged.{checkOf}
+use Rattle.rules.specs.Numbered.{rowHolds}
 use Rattle.rules.specs.Transfers.{cuts, cutsLoad, writtenIn, othersIn, opened, loaded, Loads, Loading, wordShown, readsIn, Reads, errorBy, errorFrom, tablesBy}
 use Rattle.rules.specs.Port.{portBy, wordPlaces, wordGives}
 use Rattle.rules.specs.Pairs.{Accepts, ShutsDown, keptIn, seenIn, Sizes, sizesIn, Asleep, Moment, past}
@@ -48,6 +50,12 @@ abbrev pub LowestFirst : Type 0
 LowestFirst =
     (w : World) (c : Call) (n : ℕ)
     → (step w c .told .said ≡ refused n) ↔ ((held n (rowsOf w c) ≡ true) × ((m : ℕ) → m < n → held m (rowsOf w c) ≡ false))
+
+-- and that, said by the table's numbers: "A number is given exactly when its row holds", and no lower one does
+abbrev pub RowsExactly : Type 0
+RowsExactly =
+    (w : World) (c : Call) (n : ℕ)
+    → (step w c .told .said ≡ refused n) ↔ ((rowHolds n w c ≡ true) × ((m : ℕ) → m < n → rowHolds m w c ≡ false))
 
 -- "A refused call gives its number and nothing else, and changes nothing": the answer room, where one is lent, is as it came, "and a
 -- refused call leaves all its lent memory and the pod's state as they came"
@@ -140,6 +148,13 @@ abbrev pub PacketAnswered : Type 0
 PacketAnswered =
     (w : World) (b room : List ℕ) → isAnswered w (packet b room) ≡ true
     → Answers (packetRead b) (w .pod) room (step w (packet b room) .told)
+
+-- and checks 7 to 9 are these: a command gets the error of the first that fails, and succeeds where none does
+abbrev pub ChecksExactly : Type 0
+ChecksExactly =
+    (w : World) (b room : List ℕ) (c : Command) → packetRead b ≡ Asked c → isAnswered w (packet b room) ≡ true
+    → (0 < checkOf c (w .pod) → step w (packet b room) .told ≡ answering room (errorAnswer (commandRow c .code) (checkOf c (w .pod))))
+    × (checkOf c (w .pod) ≡ 0 → Succeeds c room (step w (packet b room) .told))
 
 -- "A type 2 answer without error opens an exchange", that of its code, and no other command does
 abbrev pub OpensExactly : Type 0

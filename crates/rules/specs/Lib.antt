@@ -7,6 +7,8 @@ pub mod World
 pub mod History
 pub mod Replies
 pub mod Checks
+pub mod Judged
+pub mod Numbered
 pub mod Transfers
 pub mod Port
 pub mod Pairs

@@ -1,6 +1,6 @@
 -- All that the owner asked for, in one record: proofs/Whole.antt has its one value.
 -- Assumes nothing.
-use Rattle.rules.specs.Demands.{AlwaysAnswered, LowestFirst, RefusedUnchanged, KeptSound, LoadWhole, LoadCut, ReadWhole, ReadEnds, ReadMoves, TablesOnly, MessageError, ErrorIsHistory, StatusWordShows, PortOnly, PlacesOnly, PacketAnswered, OpensExactly, Damage, DamageAnswered, ErrorUnchanged, BlocksAreHistory, ReceiveIsHistory, StatusIsHistory, ReadIsWritten, PipeIsHistory, FramesAreHistory, NoTrace, AsFromPower, NoTracePast, AnswerAlike, AsleepFromPower, AsleepFromShutdown}
+use Rattle.rules.specs.Demands.{AlwaysAnswered, LowestFirst, RowsExactly, RefusedUnchanged, KeptSound, LoadWhole, LoadCut, ReadWhole, ReadEnds, ReadMoves, TablesOnly, MessageError, ErrorIsHistory, StatusWordShows, PortOnly, PlacesOnly, PacketAnswered, ChecksExactly, OpensExactly, Damage, DamageAnswered, ErrorUnchanged, BlocksAreHistory, ReceiveIsHistory, StatusIsHistory, ReadIsWritten, PipeIsHistory, FramesAreHistory, NoTrace, AsFromPower, NoTracePast, AnswerAlike, AsleepFromPower, AsleepFromShutdown}
 use Rattle.rules.specs.Shown.{Shown}
 use Rattle.rules.specs.Computed.{Computed, Conversation}
 
@@ -8,6 +8,7 @@ pub record Whole : Type 0 where
   -- 1. each call is answered, or refused by a number, and a refused call changes nothing
   pub always-answered : AlwaysAnswered
   pub lowest-first : LowestFirst
+  pub rows-exactly : RowsExactly
   pub refused-unchanged : RefusedUnchanged
   pub kept-sound : KeptSound
   -- 2. answers, tables, blocks and frames are exactly the papers'
@@ -23,6 +24,7 @@ pub record Whole : Type 0 where
   pub port-only : PortOnly
   pub places-only : PlacesOnly
   pub packet-answered : PacketAnswered
+  pub checks-exactly : ChecksExactly
   pub opens-exactly : OpensExactly
   pub damage : Damage
   pub damage-answered : DamageAnswered
