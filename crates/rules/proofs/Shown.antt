@@ -30,13 +30,13 @@ use Rattle.rules.specs.World.{step, final, tells}
 use Rattle.rules.specs.Computed.{Computed, Conversation}
 
 pub all-shown : Shown
-unfolding flatten ones ran poly leaving bitIn bits bitsIn crcFrom crcOf withCrc answerOf errorAnswer statusBody valueBody fieldBytes bodyOf commandBytes laidOut numbersAt fieldsOf fieldsIn fieldsBounded findIn listedIn codeRow isCode commandPlace commandRow highFirst numberOf numberAt signedOf unsignedOf crcRight acknowledges packetRead isId inRows soundParams startParams writeAllowed filter missingIds missingOf storeSized soundRing placeBehind blockAt blocksFrom blocksIn oldestOf putRing putStore droppedRing soundPlaces soundTransfer soundWords oddOnes partsOf orderOf orderHeard startWords closeOf readOpenedAt readOpened restarted orderObeyed tablesAfter commandOf wrongWay loadRight storedIn loadJudged loadOf wordTaken dataInOf readWord readNext wordGiven dataOutOf statusOf listed startTable tablesSized heldIn sentPacket sentBytes emptyInput freshInput gathers pipeByte countUp pipeTimeout soundInput gatheringOf freshPipe soundPipe placed frame lines03 lines47 framesOf sampleAt sumOf averageOf averagesOf boundedOf powerCall packetHeard meantBody replyBytes spokenBytes answered packetCall deadlineCall putCall wordCall pipeCall samplesCall wordOf wordLent pipeOf checksOf initialisedPod doneBy obeyOf matches dropFrom settled acknowledgedOf reportOf justInitialised freshFields freshPod restful soundPod step final tells
+unfolding flatten ones ran poly leaving bitIn bits bitsIn crcFrom crcOf withCrc answerOf errorAnswer fieldBytes bodyOf commandBytes laidOut numbersAt fieldsOf fieldsIn fieldsBounded findIn listedIn codeRow isCode commandPlace commandRow highFirst numberOf numberAt crcRight acknowledges packetRead isId inRows soundParams startParams storeSized soundRing soundPlaces soundTransfer soundWords oddOnes partsOf orderOf orderHeard startWords closeOf readOpenedAt readOpened restarted orderObeyed tablesAfter commandOf wrongWay loadRight storedIn loadJudged loadOf wordTaken dataInOf readWord readNext wordGiven dataOutOf statusOf listed startTable tablesSized heldIn sentPacket sentBytes emptyInput freshInput gathers pipeByte countUp pipeTimeout soundInput gatheringOf freshPipe soundPipe placed frame lines03 lines47 framesOf sampleAt sumOf averageOf averagesOf boundedOf powerCall packetHeard meantBody replyBytes spokenBytes answered packetCall wordCall pipeCall samplesCall wordOf wordLent pipeOf checksOf initialisedPod doneBy obeyOf matches settled acknowledgedOf justInitialised freshFields freshPod restful soundPod step final tells
 all-shown x = refl
 
 pub all-computed : Computed
-unfolding flatten ones ran poly leaving bitIn bits bitsIn crcFrom crcOf withCrc answerOf errorAnswer statusBody valueBody fieldBytes bodyOf commandBytes laidOut numbersAt fieldsOf fieldsIn fieldsBounded findIn listedIn codeRow isCode commandPlace commandRow highFirst numberOf numberAt signedOf unsignedOf crcRight acknowledges packetRead isId inRows soundParams startParams writeAllowed filter missingIds missingOf storeSized soundRing placeBehind blockAt blocksFrom blocksIn oldestOf putRing putStore droppedRing soundPlaces soundTransfer soundWords oddOnes partsOf orderOf orderHeard startWords closeOf readOpenedAt readOpened restarted orderObeyed tablesAfter commandOf wrongWay loadRight storedIn loadJudged loadOf wordTaken dataInOf readWord readNext wordGiven dataOutOf statusOf listed startTable tablesSized heldIn sentPacket sentBytes emptyInput freshInput gathers pipeByte countUp pipeTimeout soundInput gatheringOf freshPipe soundPipe placed frame lines03 lines47 framesOf sampleAt sumOf averageOf averagesOf boundedOf powerCall packetHeard meantBody replyBytes spokenBytes answered packetCall deadlineCall putCall wordCall pipeCall samplesCall wordOf wordLent pipeOf checksOf initialisedPod doneBy obeyOf matches dropFrom settled acknowledgedOf reportOf justInitialised freshFields freshPod restful soundPod step final tells
+unfolding flatten ones ran poly leaving bitIn bits bitsIn crcFrom crcOf withCrc answerOf errorAnswer fieldBytes bodyOf commandBytes laidOut numbersAt fieldsOf fieldsIn fieldsBounded findIn listedIn codeRow isCode commandPlace commandRow highFirst numberOf numberAt crcRight acknowledges packetRead isId inRows soundParams startParams storeSized soundRing soundPlaces soundTransfer soundWords oddOnes partsOf orderOf orderHeard startWords closeOf readOpenedAt readOpened restarted orderObeyed tablesAfter commandOf wrongWay loadRight storedIn loadJudged loadOf wordTaken dataInOf readWord readNext wordGiven dataOutOf statusOf listed startTable tablesSized heldIn sentPacket sentBytes emptyInput freshInput gathers pipeByte countUp pipeTimeout soundInput gatheringOf freshPipe soundPipe placed frame lines03 lines47 framesOf sampleAt sumOf averageOf averagesOf boundedOf powerCall packetHeard meantBody replyBytes spokenBytes answered packetCall deadlineCall wordCall pipeCall samplesCall wordOf wordLent pipeOf checksOf initialisedPod doneBy obeyOf justInitialised freshFields freshPod restful soundPod step final tells
 all-computed x y z = refl
 
 pub conversed : Conversation
-unfolding flatten ones ran poly leaving bitIn bits bitsIn crcFrom crcOf withCrc answerOf errorAnswer statusBody valueBody fieldBytes bodyOf commandBytes laidOut numbersAt fieldsOf fieldsIn fieldsBounded findIn listedIn codeRow isCode commandPlace commandRow highFirst numberOf numberAt signedOf unsignedOf crcRight acknowledges packetRead isId inRows soundParams startParams writeAllowed filter missingIds missingOf storeSized soundRing placeBehind blockAt blocksFrom blocksIn oldestOf putRing putStore droppedRing soundPlaces soundTransfer soundWords oddOnes partsOf orderOf orderHeard startWords closeOf readOpenedAt readOpened restarted orderObeyed tablesAfter commandOf wrongWay loadRight storedIn loadJudged loadOf wordTaken dataInOf readWord readNext wordGiven dataOutOf statusOf listed startTable tablesSized heldIn sentPacket sentBytes emptyInput freshInput gathers pipeByte countUp pipeTimeout soundInput gatheringOf freshPipe soundPipe placed frame lines03 lines47 framesOf sampleAt sumOf averageOf averagesOf boundedOf powerCall packetHeard meantBody replyBytes spokenBytes answered packetCall deadlineCall putCall wordCall pipeCall samplesCall wordOf wordLent pipeOf checksOf initialisedPod doneBy obeyOf matches dropFrom settled acknowledgedOf reportOf justInitialised freshFields freshPod restful soundPod step final tells
+unfolding ran poly leaving bitIn bits bitsIn crcFrom crcOf withCrc answerOf errorAnswer statusBody valueBody numbersAt fieldsOf fieldsIn fieldsBounded findIn listedIn codeRow isCode commandPlace commandRow highFirst numberOf numberAt signedOf unsignedOf crcRight acknowledges packetRead isId inRows soundParams startParams writeAllowed filter missingIds missingOf storeSized soundRing placeBehind blockAt blocksFrom blocksIn oldestOf putRing putStore droppedRing soundPlaces soundTransfer soundWords startWords closeOf listed startTable tablesSized emptyInput freshInput soundInput freshPipe soundPipe powerCall packetHeard meantBody replyBytes spokenBytes answered packetCall putCall checksOf initialisedPod doneBy obeyOf matches dropFrom settled acknowledgedOf reportOf freshFields freshPod restful soundPod step tells
 conversed = refl
