@@ -37,4 +37,5 @@ pub mod Gathering
 pub mod LoadWhole
 pub mod LoadCut
 pub mod PortOnly
+pub mod TransferOnly
 pub mod Whole

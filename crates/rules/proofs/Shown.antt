@@ -5,12 +5,12 @@ use mathlib.Core.List.{flatten}
 use lib.Count.{ones}
 use Rattle.rows.specs.Rows.{ran}
 use Rattle.crc.specs.Crc.{poly, leaving, bitIn, bits, bitsIn, crcFrom, crcOf}
-use Rattle.packets.specs.Answers.{withCrc, answerOf, errorAnswer, statusBody, fieldBytes, bodyOf, commandBytes}
+use Rattle.packets.specs.Answers.{withCrc, answerOf, errorAnswer, statusBody, valueBody, fieldBytes, bodyOf, commandBytes}
 use Rattle.packets.specs.Commands.{fieldsOf, fieldsIn, fieldsBounded, findIn, listedIn, codeRow, isCode, commandPlace, commandRow}
 use Rattle.numbers.specs.Layout.{laidOut, numbersAt}
-use Rattle.numbers.specs.Numbers.{highFirst, numberOf, numberAt}
+use Rattle.numbers.specs.Numbers.{highFirst, numberOf, numberAt, signedOf, unsignedOf}
 use Rattle.packets.specs.Reading.{crcRight, acknowledges, packetRead}
-use Rattle.params.specs.Rules.{isId, inRows, soundParams, startParams, filter, missingIds, missingOf}
+use Rattle.params.specs.Rules.{isId, inRows, soundParams, startParams, writeAllowed, filter, missingIds, missingOf}
 use Rattle.blocks.specs.Stores.{storeSized, soundRing, placeBehind, blockAt, blocksFrom, blocksIn, oldestOf, putRing, putStore, droppedRing}
 use Rattle.tables.specs.Bounds.{soundPlaces, soundTransfer, soundWords}
 use Rattle.orders.specs.Command.{oddOnes, partsOf, orderOf, orderHeard}
@@ -29,15 +29,14 @@ use Rattle.rules.specs.State.{freshFields, freshPod, restful, soundPod}
 use Rattle.rules.specs.World.{step, final, tells}
 use Rattle.rules.specs.Computed.{Computed, Conversation}
 
-by-computation : Shown × Computed × Conversation
-unfolding flatten ones ran poly leaving bitIn bits bitsIn crcFrom crcOf withCrc answerOf errorAnswer statusBody fieldBytes bodyOf commandBytes laidOut numbersAt fieldsOf fieldsIn fieldsBounded findIn listedIn codeRow isCode commandPlace commandRow highFirst numberOf numberAt crcRight acknowledges packetRead isId inRows soundParams startParams filter missingIds missingOf storeSized soundRing placeBehind blockAt blocksFrom blocksIn oldestOf putRing putStore droppedRing soundPlaces soundTransfer soundWords oddOnes partsOf orderOf orderHeard startWords closeOf readOpenedAt readOpened restarted orderObeyed tablesAfter commandOf wrongWay loadRight storedIn loadJudged loadOf wordTaken dataInOf readWord readNext wordGiven dataOutOf statusOf listed startTable tablesSized heldIn sentPacket sentBytes emptyInput freshInput gathers pipeByte countUp pipeTimeout soundInput gatheringOf freshPipe soundPipe placed frame lines03 lines47 framesOf sampleAt sumOf averageOf averagesOf boundedOf powerCall packetHeard meantBody replyBytes spokenBytes answered packetCall deadlineCall putCall wordCall pipeCall samplesCall wordOf wordLent pipeOf checksOf initialisedPod doneBy obeyOf matches dropFrom settled acknowledgedOf reportOf justInitialised freshFields freshPod restful soundPod step final tells
-by-computation = (λ x. refl, λ x y z. refl, refl)
-
 pub all-shown : Shown
-all-shown = by-computation .0
+unfolding flatten ones ran poly leaving bitIn bits bitsIn crcFrom crcOf withCrc answerOf errorAnswer fieldBytes bodyOf commandBytes laidOut numbersAt fieldsOf fieldsIn fieldsBounded findIn listedIn codeRow isCode commandPlace commandRow highFirst numberOf numberAt crcRight acknowledges packetRead isId inRows soundParams startParams storeSized soundRing soundPlaces soundTransfer soundWords oddOnes partsOf orderOf orderHeard startWords closeOf readOpenedAt readOpened restarted orderObeyed tablesAfter commandOf wrongWay loadRight storedIn loadJudged loadOf wordTaken dataInOf readWord readNext wordGiven dataOutOf statusOf listed startTable tablesSized heldIn sentPacket sentBytes emptyInput freshInput gathers pipeByte countUp pipeTimeout soundInput gatheringOf freshPipe soundPipe placed frame lines03 lines47 framesOf sampleAt sumOf averageOf averagesOf boundedOf powerCall packetHeard meantBody replyBytes spokenBytes answered packetCall wordCall pipeCall samplesCall wordOf wordLent pipeOf checksOf initialisedPod doneBy obeyOf matches settled acknowledgedOf justInitialised freshFields freshPod restful soundPod step final tells
+all-shown x = refl
 
 pub all-computed : Computed
-all-computed = by-computation .1
+unfolding flatten ones ran poly leaving bitIn bits bitsIn crcFrom crcOf withCrc answerOf errorAnswer fieldBytes bodyOf commandBytes laidOut numbersAt fieldsOf fieldsIn fieldsBounded findIn listedIn codeRow isCode commandPlace commandRow highFirst numberOf numberAt crcRight acknowledges packetRead isId inRows soundParams startParams storeSized soundRing soundPlaces soundTransfer soundWords oddOnes partsOf orderOf orderHeard startWords closeOf readOpenedAt readOpened restarted orderObeyed tablesAfter commandOf wrongWay loadRight storedIn loadJudged loadOf wordTaken dataInOf readWord readNext wordGiven dataOutOf statusOf listed startTable tablesSized heldIn sentPacket sentBytes emptyInput freshInput gathers pipeByte countUp pipeTimeout soundInput gatheringOf freshPipe soundPipe placed frame lines03 lines47 framesOf sampleAt sumOf averageOf averagesOf boundedOf powerCall packetHeard meantBody replyBytes spokenBytes answered packetCall deadlineCall wordCall pipeCall samplesCall wordOf wordLent pipeOf checksOf initialisedPod doneBy obeyOf justInitialised freshFields freshPod restful soundPod step final tells
+all-computed x y z = refl
 
 pub conversed : Conversation
-conversed = by-computation .2
+unfolding ran poly leaving bitIn bits bitsIn crcFrom crcOf withCrc answerOf errorAnswer statusBody valueBody numbersAt fieldsOf fieldsIn fieldsBounded findIn listedIn codeRow isCode commandPlace commandRow highFirst numberOf numberAt signedOf unsignedOf crcRight acknowledges packetRead isId inRows soundParams startParams writeAllowed filter missingIds missingOf storeSized soundRing placeBehind blockAt blocksFrom blocksIn oldestOf putRing putStore droppedRing soundPlaces soundTransfer soundWords startWords closeOf listed startTable tablesSized emptyInput freshInput soundInput freshPipe soundPipe powerCall packetHeard meantBody replyBytes spokenBytes answered packetCall putCall checksOf initialisedPod doneBy obeyOf matches dropFrom settled acknowledgedOf reportOf freshFields freshPod restful soundPod step tells
+conversed = refl

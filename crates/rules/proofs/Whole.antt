@@ -10,6 +10,7 @@ use Rattle.rules.proofs.ReadWhole.{read-whole, read-ends, read-moves}
 use Rattle.rules.proofs.NoOther.{tables-only}
 use Rattle.rules.proofs.MessageError.{message-error, error-is-history, status-word-shows}
 use Rattle.rules.proofs.PortOnly.{port-only, places-only}
+use Rattle.rules.proofs.TransferOnly.{transfer-only, reads-zero}
 use Rattle.rules.proofs.Checked.{packet-answered, opens-exactly, damage, damage-answered, error-unchanged}
 use Rattle.rules.proofs.Judged.{checks-exactly}
 use Rattle.rules.proofs.Blocks.{blocks-are-history}
@@ -39,6 +40,8 @@ whole =
       status-word-shows = status-word-shows;
       port-only = port-only;
       places-only = places-only;
+      transfer-only = transfer-only;
+      reads-zero = reads-zero;
       packet-answered = packet-answered;
       checks-exactly = checks-exactly;
       opens-exactly = opens-exactly;

@@ -12,7 +12,7 @@ use Rattle.rules.specs.State.{Lent, freshPod}
 use Rattle.rules.specs.Refusals.{done}
 use Rattle.rules.specs.Families.{status, byte}
 use Rattle.rules.specs.World.{world, Call, power, packet, deadline, put, word, pipe, samples, Told, told, answering, step, final, tells}
-use Rattle.rules.specs.Shown.{justInitialised, wordsOut, statusAfter, fiveAfter, order, loading, reading, load, Line, line, AsExpected}
+use Rattle.rules.specs.Shown.{justInitialised, wordsOut, statusAfter, fiveAfter, order, loading, reading, load, read, Line, line, AsExpected}
 
 abbrev pub sevenAfter : List Call → List ℕ
 sevenAfter cs = final justInitialised cs .lent .tables .seven
@@ -20,6 +20,10 @@ sevenAfter cs = final justInitialised cs .lent .tables .seven
 -- a Shutdown
 abbrev pub off : List Call
 off = packet (0x9F ∷ 0x01 ∷ 0x05 ∷ 0xFB ∷ []) (replicate 260 0) ∷ []
+
+-- the status word
+abbrev pub shows : List Call
+shows = word status ∷ []
 
 -- the two frames after some calls, of a self-check number and the samples 0 to 127: channel c averages 60 + c
 abbrev pub framesShown : List Call → ℕ → List ℕ
@@ -46,6 +50,16 @@ computed x y z =
     ∷ line (wordsOut (order 0x8E04 ++ loading (7 ∷ 1 ∷ 1 ∷ x ∷ []) ++ order 0x0001 ++ order 0xCE06 ++ reading 6)) (7 ∷ 0 ∷ 3 ∷ 0 ∷ 256 ∷ 512 ∷ [])
     -- StatusWordShows: message error, and then no more
     ∷ line (wordsOut (order 0x0000 ++ (word status ∷ word status ∷ []))) (2 ∷ 0 ∷ [])
+    -- MessageError, TransferOnly: 8000 cuts an address, cuts a read, and comes after an address that has its word
+    ∷ line (wordsOut (order 0x8201 ++ order 0x8000 ++ shows ++ order 0xCA04 ++ order 0x8000 ++ shows ++ order 0x8201 ++ loading (3 ∷ []) ++ order 0x8000 ++ shows))
+    (2 ∷ 2 ∷ 0 ∷ [])
+    -- MessageError: words not accepted: even ones; stop reading; N 3 and N 65; command 2
+    ∷ line (wordsOut (order 0x8A04 ++ shows ++ order 0x4000 ++ shows ++ order 0x8A03 ++ shows ++ order 0x8A41 ++ shows ++ order 0x8404 ++ shows))
+    (2 ∷ 2 ∷ 2 ∷ 2 ∷ 2 ∷ [])
+    -- and 8000 while asleep: the Shutdown's answer has 5 bytes, and it sets none itself
+    ∷ line (wordsOut (off ++ shows ++ order 0x8000 ++ shows)) (5 ∷ 0 ∷ 2 ∷ [])
+    -- ReadsZero: with nothing open; PlacesOnly: a given address goes before a place that has moved
+    ∷ line (wordsOut (reading 1 ++ read ++ order 0x8201 ++ loading (3 ∷ []) ++ read)) (0 ∷ 5 ∷ 0 ∷ 1 ∷ 0 ∷ 5 ∷ 3 ∷ 1 ∷ 0 ∷ [])
     -- FramesAreHistory: awake; with a byte gathered, a deadline past; and both asleep
     ∷ line (framesShown [] 0) (framesWith 0 4 0)
     ∷ line (framesShown (pipe (byte 9) ∷ deadline ∷ []) 5) (framesWith 128 4 20)
@@ -82,6 +96,11 @@ dusty =
 abbrev pub conversation : List Turn
 conversation =
     record { call = power; told = told (gave done) [] }
+    -- PacketAnswered: document 01's session, not initialised, no code, too short, empty
+    ∷ asks (0x9F ∷ 0x01 ∷ 0x05 ∷ 0xFB ∷ []) (0x9F ∷ 0x09 ∷ 0x38 ∷ 0x95 ∷ 0x57 ∷ [])
+    ∷ asks (0xFF ∷ 0xFF ∷ 0x00 ∷ 0x00 ∷ []) (0xFF ∷ 0x09 ∷ 0x02 ∷ 0x99 ∷ 0x25 ∷ [])
+    ∷ asks (0x91 ∷ []) (0x91 ∷ 0x09 ∷ 0x01 ∷ 0x29 ∷ 0x2C ∷ [])
+    ∷ asks [] []
     -- Initialise: mode 1, flags 1234, 5.250 s, priority limit 4 and remaining 2, memory limit 9 and remaining 1, poll 1,000
     ∷ asks
     (0x90 ∷ 0x01 ∷ 0x01 ∷ 0x12 ∷ 0x34 ∷ 0x00 ∷ 0x00 ∷ 0x14 ∷ 0xFA ∷ 0x00 ∷ 0x04 ∷ 0x00 ∷ 0x02 ∷ 0x00 ∷ 0x00 ∷ 0x00 ∷ 0x09 ∷ 0x00 ∷ 0x00 ∷ 0x00 ∷ 0x01 ∷ 0x03 ∷ 0xE8 ∷ 0x31 ∷ 0x04 ∷ [])
@@ -109,6 +128,10 @@ conversation =
     -- Status: 1 and 1 block wait
     ∷ asks (0x91 ∷ 0x01 ∷ 0x26 ∷ 0xF4 ∷ [])
     (0x91 ∷ 0x01 ∷ 0x01 ∷ 0x12 ∷ 0x34 ∷ 0x00 ∷ 0x01 ∷ 0x00 ∷ 0x00 ∷ 0x00 ∷ 0x01 ∷ 0x00 ∷ 0x01 ∷ 0x02 ∷ 0x03 ∷ 0x06 ∷ 0x07 ∷ 0x00 ∷ 0x00 ∷ 0x00 ∷ 0x57 ∷ 0xD8 ∷ [])
+    -- ReadIsWritten: parameter 1 starts at -2000; -1000 is written, and read
+    ∷ asks (0x94 ∷ 0x01 ∷ 0x01 ∷ 0x4B ∷ 0x75 ∷ []) (0x94 ∷ 0x01 ∷ 0x01 ∷ 0xFF ∷ 0xFF ∷ 0xF8 ∷ 0x30 ∷ 0x6B ∷ 0x80 ∷ [])
+    ∷ asks (0x93 ∷ 0x01 ∷ 0x01 ∷ 0xFF ∷ 0xFF ∷ 0xFC ∷ 0x18 ∷ 0x1B ∷ 0x6A ∷ []) (0x93 ∷ 0x01 ∷ 0x7E ∷ 0x41 ∷ 0x9D ∷ [])
+    ∷ asks (0x94 ∷ 0x01 ∷ 0x01 ∷ 0x4B ∷ 0x75 ∷ []) (0x94 ∷ 0x01 ∷ 0x01 ∷ 0xFF ∷ 0xFF ∷ 0xFC ∷ 0x18 ∷ 0x02 ∷ 0x2E ∷ [])
     ∷ []
 
 -- BlocksAreHistory, ReceiveIsHistory, StatusIsHistory: a block is put, sent, kept, sent again, acknowledged and dropped, and

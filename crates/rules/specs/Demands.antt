@@ -36,7 +36,7 @@ use Rattle.rules.specs.Checks.{Succeeds, Answers, damaged}
 use Rattle.rules.specs.Judged.{checkOf}
 use Rattle.rules.specs.Numbered.{rowHolds}
 use Rattle.rules.specs.Transfers.{cuts, cutsLoad, writtenIn, othersIn, opened, loaded, Loads, Loading, wordShown, readsIn, Reads, errorBy, errorFrom, tablesBy}
-use Rattle.rules.specs.Port.{portBy, wordPlaces, wordGives}
+use Rattle.rules.specs.Port.{portBy, wordPlaces, wordGives, wordOpens, isRead}
 use Rattle.rules.specs.Pairs.{Accepts, ShutsDown, keptIn, seenIn, Sizes, sizesIn, Asleep, Moment, past}
 
 -- ---- 1. "Any packet, word, sample or state may arrive. Each is answered, or refused by a number in document 01"
@@ -137,6 +137,18 @@ PlacesOnly =
     (w : World) (c : WordCall) → isAnswered w (word c) ≡ true
     → (next w (word c) .pod .words .places ≡ wordPlaces c (w .pod .initialised) (w .pod .words))
     × (next w (word c) .pod .words .given ≡ wordGives c (w .pod .initialised) (w .pod .words))
+
+-- and the open transfer so
+abbrev pub TransferOnly : Type 0
+TransferOnly =
+    (w : World) (c : WordCall) → isAnswered w (word c) ≡ true
+    → next w (word c) .pod .words .transfer ≡ wordOpens c (w .pod .initialised) (w .pod .words)
+
+-- "A data word .. read with no transfer that way .. reads as 0"
+abbrev pub ReadsZero : Type 0
+ReadsZero =
+    (w : World) → isAnswered w (word dataOut) ≡ true → isRead (w .pod .words .transfer) ≡ false
+    → step w (word dataOut) .told ≡ told (gave (reads 0)) []
 
 -- "The status word is 2 with message error, else 0"
 abbrev pub StatusWordShows : Type 0

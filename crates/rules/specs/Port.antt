@@ -1,7 +1,9 @@
--- The table port after any call: which calls touch it, where each table's next read begins, and which address is given.
+-- The table port after any call: which calls touch it, where each table's next read begins, which address is given, and which transfer is
+-- open.
 -- Assumes nothing.
 use Prim.Native.Nat.{ℕ, _+_, _-_}
-use mathlib.Core.Bool.{Bool, cond}
+use mathlib.Core.Bool.{Bool, true, false, cond}
+use lib.Dec.{ltb}
 use Rattle.tables.specs.declared.Words.{Words}
 use Rattle.tables.specs.declared.Places.{Places}
 use Rattle.tables.specs.declared.Given.{Given}
@@ -12,7 +14,7 @@ use Rattle.tables.specs.declared.Transfer.{Transfer}
 use Rattle.tables.specs.declared.Transfer.the-variants.{Idle, Address, Load, Read}
 use Rattle.tables.specs.Tables.{readPlace, withReadPlace}
 use Rattle.orders.specs.Command.{orderHeard}
-use Rattle.tables.specs.Port.{Desk, startWords, closeOf, beginsAt}
+use Rattle.tables.specs.Port.{Desk, startWords, header, closeOf, beginsAt}
 use Rattle.rules.specs.Families.{WordCall, command, dataIn, dataOut, status, wordOf}
 use Rattle.rules.specs.History.{Event, nothing, begins, sleeps, updates, writes, opens, closes, acknowledges, puts, words, pipes}
 use Rattle.rules.specs.Transfers.{notTaken}
@@ -69,3 +71,39 @@ wordGives (command x) on w = givenAfter (orderHeard on x) w
 wordGives (dataIn x) on w = givenIn (w .transfer) x (w .given)
 wordGives dataOut on w = w .given
 wordGives status on w = w .given
+
+-- "every command word closes an open transfer"; an accepted load, read or command 1 then opens its own, no word along
+abbrev pub opensAfter : Order → Words → Transfer
+opensAfter Other w = Idle
+opensAfter Stop w = Idle
+opensAfter Restart w = Idle
+opensAfter Next w = Address
+opensAfter (Writing t n) w = Load (header t n) 0
+opensAfter (Reading t n) w =
+    cond (notTaken (Reading t n) w) Idle (Read (header t n) 0 (beginsAt (w .given) (readPlace t (w .places))))
+
+-- a data word goes one word along, its last word closes, and "with no transfer that way" it "closes any other transfer"
+abbrev pub opensIn : Transfer → Transfer
+opensIn Idle = Idle
+opensIn Address = Idle
+opensIn (Load h k) = cond (ltb (k + 1) (h .n)) (Load h (k + 1)) Idle
+opensIn (Read h k at) = Idle
+
+abbrev pub opensOut : Transfer → Transfer
+opensOut Idle = Idle
+opensOut Address = Idle
+opensOut (Load h k) = Idle
+opensOut (Read h k at) = cond (ltb (k + 1) (h .n)) (Read h (k + 1) at) Idle
+
+unfoldable pub wordOpens : WordCall → Bool → Words → Transfer
+wordOpens (command x) on w = opensAfter (orderHeard on x) w
+wordOpens (dataIn x) on w = opensIn (w .transfer)
+wordOpens dataOut on w = opensOut (w .transfer)
+wordOpens status on w = w .transfer
+
+-- a transfer that way, for a data word read
+abbrev pub isRead : Transfer → Bool
+isRead Idle = false
+isRead Address = false
+isRead (Load h k) = false
+isRead (Read h k at) = true
