@@ -19,6 +19,7 @@ pub mod Asked
 pub mod Sound
 pub mod Answered
 pub mod Checked
+pub mod Kept
 pub mod WordsAlike
 pub mod Twins
 pub mod Said

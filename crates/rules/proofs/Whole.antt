@@ -14,6 +14,7 @@ use Rattle.rules.proofs.Blocks.{blocks-are-history}
 use Rattle.rules.proofs.Asked.{receive-is-history, status-is-history, read-is-written}
 use Rattle.rules.proofs.Flow.{pipe-is-history}
 use Rattle.rules.proofs.Frames.{frames-are-history}
+use Rattle.rules.proofs.Kept.{awake-is-history, fields-are-history, exchange-is-history, params-are-history, marks-are-history, drop-guarded, fresh-is}
 use Rattle.rules.proofs.NoTrace.{no-trace, as-from-power, no-trace-past}
 use Rattle.rules.proofs.Asleep.{answer-alike, asleep-from-power, asleep-from-shutdown}
 use Rattle.rules.proofs.Shown.{all-shown, all-computed, conversed}
@@ -47,6 +48,13 @@ whole =
       read-is-written = read-is-written;
       pipe-is-history = pipe-is-history;
       frames-are-history = frames-are-history;
+      awake-is-history = awake-is-history;
+      fields-are-history = fields-are-history;
+      exchange-is-history = exchange-is-history;
+      params-are-history = params-are-history;
+      marks-are-history = marks-are-history;
+      drop-guarded = drop-guarded;
+      fresh-is = fresh-is;
       no-trace = no-trace;
       as-from-power = as-from-power;
       no-trace-past = no-trace-past;

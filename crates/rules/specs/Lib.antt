@@ -11,6 +11,7 @@ pub mod Transfers
 pub mod Port
 pub mod Pairs
 pub mod Demands
+pub mod Kept
 pub mod Shown
 pub mod Computed
 pub mod Whole
