@@ -2,7 +2,6 @@
 -- Assumes nothing.
 use Prim.Native.Nat.{ℕ}
 use mathlib.Core.Path.{_≡_, refl}
-use mathlib.Core.List.{List}
 use mathlib.Core.Bool.{Bool, true, _||_}
 use lib.Dec.{eqb}
 use Rattle.rows.specs.Rows.{Clear}
@@ -17,7 +16,7 @@ use Rattle.rules.specs.declared.Exchange.the-variants.{Closed, Status, R
 use Rattle.rules.specs.declared.Pod.{Pod}
 use Rattle.rules.specs.State.{ringOf, remainingOf, freshFields, freshPod}
 use Rattle.rules.specs.Obey.{matches, dropFrom, settled, acknowledgedOf}
-use Rattle.rules.specs.World.{World, packet, Stepped, rowsOf, powered}
+use Rattle.rules.specs.World.{packet, Stepped, rowsOf, powered}
 use Rattle.rules.specs.History.{exchangeBy}
 use Rattle.rules.specs.Demands.{blank}
 use Rattle.rules.specs.Kept.{AwakeIsHistory, FieldsAreHistory, ExchangeIsHistory, ParamsAreHistory, MarksAreHistory, DropGuarded, FreshIs}

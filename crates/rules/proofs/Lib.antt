@@ -30,6 +30,7 @@ pub mod NoTrace
 pub mod Sleepers
 pub mod Asleep
 pub mod Shown
+pub mod Edges
 pub mod NotEmpty
 pub mod Holding
 pub mod Gathering

@@ -17,6 +17,7 @@ use Rattle.rules.proofs.Frames.{frames-are-history}
 use Rattle.rules.proofs.Kept.{awake-is-history, fields-are-history, exchange-is-history, params-are-history, marks-are-history, drop-guarded, fresh-is}
 use Rattle.rules.proofs.NoTrace.{no-trace, as-from-power, no-trace-past}
 use Rattle.rules.proofs.Asleep.{answer-alike, asleep-from-power, asleep-from-shutdown}
+use Rattle.rules.proofs.Edges.{all-edges}
 use Rattle.rules.proofs.Shown.{all-shown, all-computed, conversed}
 
 pub whole : Whole
@@ -62,6 +63,7 @@ whole =
       asleep-from-power = asleep-from-power;
       asleep-from-shutdown = asleep-from-shutdown;
       shown = all-shown;
+      edges = all-edges;
       computed = all-computed;
       conversation = conversed;
     }

@@ -13,5 +13,6 @@ pub mod Pairs
 pub mod Demands
 pub mod Kept
 pub mod Shown
+pub mod Edges
 pub mod Computed
 pub mod Whole

@@ -3,6 +3,7 @@
 use Rattle.rules.specs.Demands.{AlwaysAnswered, LowestFirst, RefusedUnchanged, KeptSound, LoadWhole, LoadCut, ReadWhole, ReadEnds, ReadMoves, TablesOnly, MessageError, ErrorIsHistory, StatusWordShows, PortOnly, PlacesOnly, PacketAnswered, OpensExactly, Damage, DamageAnswered, ErrorUnchanged, BlocksAreHistory, ReceiveIsHistory, StatusIsHistory, ReadIsWritten, PipeIsHistory, FramesAreHistory, NoTrace, AsFromPower, NoTracePast, AnswerAlike, AsleepFromPower, AsleepFromShutdown}
 use Rattle.rules.specs.Kept.{AwakeIsHistory, FieldsAreHistory, ExchangeIsHistory, ParamsAreHistory, MarksAreHistory, DropGuarded, FreshIs}
 use Rattle.rules.specs.Shown.{Shown}
+use Rattle.rules.specs.Edges.{Edges}
 use Rattle.rules.specs.Computed.{Computed, Conversation}
 
 pub record Whole : Type 0 where
@@ -51,5 +52,6 @@ pub record Whole : Type 0 where
   pub asleep-from-shutdown : AsleepFromShutdown
   -- document 01's examples, and what stands beside a statement that judges by a rule's own test
   pub shown : Shown
+  pub edges : Edges
   pub computed : Computed
   pub conversation : Conversation
