@@ -1,7 +1,7 @@
 // The byte pipe.
-use gates::Gate;
 use commands::sound;
 use commands::with_pipe;
+use gates::Gate;
 use pipe::Pipe;
 use pipe::Piped;
 use pipe::Sent;

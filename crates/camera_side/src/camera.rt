@@ -1,9 +1,9 @@
 // The camera's blocks.
-use gates::Gate;
 use blocks::Store;
 use commands::ring_of;
 use commands::sound;
 use commands::with_ring;
+use gates::Gate;
 use rules::Answer;
 use rules::Called;
 use rules::Pod;

@@ -1,7 +1,7 @@
 // The sample sets of a survey.
-use gates::Gate;
 use commands::sound;
 use frames::Frames;
+use gates::Gate;
 use rules::Answer;
 use rules::Framed;
 use rules::Pod;

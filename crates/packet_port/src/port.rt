@@ -1,5 +1,4 @@
 // The packet call: a packet is read, obeyed and answered.
-use gates::Gate;
 use blocks::Store;
 use commands::acknowledged;
 use commands::obey;
@@ -7,6 +6,7 @@ use commands::report;
 use commands::ring_of;
 use commands::shut;
 use commands::sound;
+use gates::Gate;
 use packets::Command;
 use packets::Parsed;
 use rules::Answer;

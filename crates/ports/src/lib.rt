@@ -151,7 +151,16 @@ pub fn answer(
         Line::Timeout => piped(pod::pipe_timeout(pod), b'T', out, at),
         _ => {
             let called = call(
-                line, pod, bytes, room, load, priority, ordinary, five, six, seven,
+                line,
+                pod,
+                bytes,
+                room,
+                load,
+                priority,
+                ordinary,
+                five,
+                six,
+                seven,
             );
             said(line, called, room, out, at)
         }

@@ -131,16 +131,7 @@ pub fn counts() {
     number(b'n', 65, 0);
 }
 
-fn open(
-    what: u8,
-    on: bool,
-    exchange: u8,
-    transfer: u8,
-    table: u8,
-    n: u8,
-    k: u8,
-    start: u8,
-) {
+fn open(what: u8, on: bool, exchange: u8, transfer: u8, table: u8, n: u8, k: u8, start: u8) {
     tried(what, with_open(on, exchange, transfer, table, n, k, start));
 }
 

@@ -1,5 +1,6 @@
 // Calls on lent memory of these sizes. Before each, every byte of what is lent to be written is 0x5A. The pod that is handed
 // in is initialised or not, in a mode, with so many blocks waiting.
+use rules::Called;
 use told::answered;
 use told::bytes_kept;
 use told::ended;
@@ -7,7 +8,6 @@ use told::handed;
 use told::held;
 use told::store_of;
 use told::tables_kept;
-use rules::Called;
 ghost use Prim.Native.Nat.{_≤_};
 
 // Initialise with all fields 0 and poll 1,000. It would change the state, the room and the tables.

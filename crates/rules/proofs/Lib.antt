@@ -21,6 +21,7 @@ pub mod Answered
 pub mod Numbered
 pub mod Checked
 pub mod Judged
+pub mod Kept
 pub mod WordsAlike
 pub mod Twins
 pub mod Said
@@ -31,6 +32,7 @@ pub mod NoTrace
 pub mod Sleepers
 pub mod Asleep
 pub mod Shown
+pub mod Edges
 pub mod NotEmpty
 pub mod Holding
 pub mod Gathering

@@ -16,7 +16,7 @@ use Rattle.packets.specs.declared.Command.{Command}
 use Rattle.packets.specs.declared.Command.the-variants as asked
 use Rattle.rules.specs.declared.Exchange.the-variants.{Closed}
 use Rattle.orders.specs.declared.Table.the-variants.{Five, Seven}
-use Rattle.rows.specs.Rows.{Said, refused, ran}
+use Rattle.rows.specs.Rows.{ran}
 use Rattle.crc.specs.Crc.{poly, leaving, bitIn, bits, bitsIn, crcFrom, crcOf}
 use Rattle.packets.specs.Answers.{withCrc, answerOf, errorAnswer, statusBody, valueBody, fieldBytes, bodyOf, commandBytes}
 use Rattle.packets.specs.Commands.{fieldsOf, fieldsIn, fieldsBounded, findIn, listedIn, codeRow, isCode, commandPlace, commandRow}
@@ -28,7 +28,7 @@ use Rattle.blocks.specs.Stores.{storeSized, soundRing, placeBehind, blockAt, bl
 use Rattle.tables.specs.Bounds.{soundPlaces, soundTransfer, soundWords}
 use Rattle.orders.specs.Command.{oddOnes, partsOf, orderOf, orderHeard}
 use Rattle.tables.specs.Port.{header, startWords, closeOf, readOpenedAt, readOpened, restarted, orderObeyed, tablesAfter, commandOf, wrongWay, loadRight, storedIn, loadJudged, loadOf, wordTaken, dataInOf, readWord, readNext, wordGiven, dataOutOf, statusOf}
-use Rattle.tables.specs.Tables.{Three, three, listed, startTable, tablesSized}
+use Rattle.tables.specs.Tables.{Three, listed, startTable, tablesSized}
 use Rattle.pipe.specs.Input.{heldIn, sentPacket, sentBytes, emptyInput, freshInput, gathers, pipeByte, countUp, pipeTimeout, soundInput, gatheringOf}
 use Rattle.pipe.specs.Pipe.{freshPipe, soundPipe}
 use Rattle.frames.specs.Fields.{placed, frame}
@@ -39,13 +39,13 @@ use Rattle.rules.specs.Families.{WordCall, command, dataIn, dataOut, sta
 use Rattle.rules.specs.History.{succeeded, errored, eventOf, events}
 use Rattle.rules.specs.Obey.{checksOf, initialisedPod, doneBy, obeyOf, matches, dropFrom, settled, acknowledgedOf, reportOf}
 use Rattle.rules.specs.Shown.{order, loading, reading, load, justInitialised}
-use Rattle.rules.specs.State.{withRing, withPipe, withTables, freshFields, freshPod, restful, soundPod}
+use Rattle.rules.specs.State.{freshFields, freshPod, restful, soundPod}
 use Rattle.rules.specs.Transfers.{Loads, Loading, Reads, cutsLoad, cutsRead, cuts, leftOpen, writtenIn, readsIn}
-use Rattle.rules.specs.World.{World, Call, power, packet, deadline, put, word, pipe, samples, Told, next, withPod, step, final, tells}
+use Rattle.rules.specs.World.{World, Call, power, packet, deadline, put, word, pipe, samples, Told, next, step, final, tells}
 use Rattle.rules.specs.Pairs.{Accepts, ShutsDown, Seen, seenIn, Asleep}
 use Rattle.rules.specs.Checks.{damaged}
-use Rattle.rules.specs.Demands.{justPowered}
-use Rattle.rules.specs.Refusals.{Given}
+use Rattle.rules.specs.Edges.{Edges}
+use Rattle.rules.proofs.Edges.{all-edges}
 
 -- a command as a call, in a room of its size
 abbrev asks : Command → Call
@@ -96,19 +96,6 @@ amidLoad = between (loading (5 ∷ [])) (loading (63 ∷ [])) (loading (1 ∷ []
 abbrev amidRead : List Call
 amidRead = between (reading 1) (reading 2) (reading 2)
 
--- too many timeouts; the same with no tables; the priority store full, of a pod that is initialised and of one that is not
-abbrev broken : World
-broken = withPod (withPipe (record { input = record { bytes = replicate 8 0; gathered = 0; timeouts = 16 } }) (justPowered .pod)) justPowered
-
-abbrev bare : World
-bare = record { pod = broken .pod; lent = withTables (three [] [] []) (broken .lent) }
-
-abbrev fullIn : World → World
-fullIn w = withPod (withRing Priority (record { oldest = 0; waiting = 16 }) (w .pod)) w
-
-abbrev saysIn : World → Call → Said Given
-saysIn w c = step w c .told .said
-
 abbrev readAt : World → Told
 readAt w = step w (asks (asked.Read 1)) .told
 
@@ -154,10 +141,7 @@ pub record NotEmpty : Type 0 where
   pub broken-crc : damaged (0x91 ∷ 0x01 ∷ 0x00 ∷ 0x00 ∷ []) ≡ true
   pub errs : errored (step justInitialised (asks (asked.Initialise unfit)) .told) ≡ true
   -- AlwaysAnswered: each number is given, also where higher rows hold too
-  pub numbers : (saysIn bare (packet [] []) ∷ saysIn bare (packet [] (replicate 260 0)) ∷ saysIn broken (put Priority [])
-      ∷ saysIn justPowered (put Priority []) ∷ saysIn justPowered (samples 32 (replicate 128 0)) ∷ saysIn justPowered (pipe (byte 0))
-      ∷ saysIn (fullIn justPowered) (put Priority (replicate 256 0)) ∷ saysIn (fullIn justInitialised) (put Priority (replicate 256 0)) ∷ [])
-      ≡ map refused (1 ∷ 2 ∷ 3 ∷ 4 ∷ 5 ∷ 6 ∷ 6 ∷ 7 ∷ [])
+  pub numbers : Edges
 
 pub not-empty : NotEmpty
 unfolding ones ran poly leaving bitIn bits bitsIn crcFrom crcOf withCrc answerOf errorAnswer statusBody valueBody fieldBytes bodyOf commandBytes laidOut numbersAt fieldsOf fieldsIn fieldsBounded findIn listedIn codeRow isCode commandPlace commandRow highFirst numberOf numberAt signedOf unsignedOf crcRight acknowledges packetRead isId inRows soundParams startParams writeAllowed filter missingIds missingOf storeSized soundRing placeBehind blockAt blocksFrom blocksIn oldestOf putRing putStore droppedRing soundPlaces soundTransfer soundWords oddOnes partsOf orderOf orderHeard startWords closeOf readOpenedAt readOpened restarted orderObeyed tablesAfter commandOf wrongWay loadRight storedIn loadJudged loadOf wordTaken dataInOf readWord readNext wordGiven dataOutOf statusOf listed startTable tablesSized heldIn sentPacket sentBytes emptyInput freshInput gathers pipeByte countUp pipeTimeout soundInput gatheringOf freshPipe soundPipe placed frame lines03 lines47 framesOf sampleAt sumOf averageOf averagesOf boundedOf powerCall packetHeard meantBody replyBytes spokenBytes answered packetCall deadlineCall putCall wordCall pipeCall samplesCall wordOf wordLent pipeOf succeeded errored eventOf events checksOf initialisedPod doneBy obeyOf matches dropFrom settled acknowledgedOf reportOf justInitialised freshFields freshPod restful soundPod cuts leftOpen writtenIn readsIn step final tells
@@ -191,5 +175,5 @@ not-empty =
       short = refl;
       broken-crc = refl;
       errs = refl;
-      numbers = refl;
+      numbers = all-edges;
     }

@@ -17,8 +17,10 @@ use Rattle.rules.proofs.Blocks.{blocks-are-history}
 use Rattle.rules.proofs.Asked.{receive-is-history, status-is-history, read-is-written}
 use Rattle.rules.proofs.Flow.{pipe-is-history}
 use Rattle.rules.proofs.Frames.{frames-are-history}
+use Rattle.rules.proofs.Kept.{awake-is-history, fields-are-history, exchange-is-history, params-are-history, marks-are-history, drop-guarded, fresh-is}
 use Rattle.rules.proofs.NoTrace.{no-trace, as-from-power, no-trace-past}
 use Rattle.rules.proofs.Asleep.{answer-alike, asleep-from-power, asleep-from-shutdown}
+use Rattle.rules.proofs.Edges.{all-edges}
 use Rattle.rules.proofs.Shown.{all-shown, all-computed, conversed}
 
 pub whole : Whole
@@ -54,6 +56,13 @@ whole =
       read-is-written = read-is-written;
       pipe-is-history = pipe-is-history;
       frames-are-history = frames-are-history;
+      awake-is-history = awake-is-history;
+      fields-are-history = fields-are-history;
+      exchange-is-history = exchange-is-history;
+      params-are-history = params-are-history;
+      marks-are-history = marks-are-history;
+      drop-guarded = drop-guarded;
+      fresh-is = fresh-is;
       no-trace = no-trace;
       as-from-power = as-from-power;
       no-trace-past = no-trace-past;
@@ -61,6 +70,7 @@ whole =
       asleep-from-power = asleep-from-power;
       asleep-from-shutdown = asleep-from-shutdown;
       shown = all-shown;
+      edges = all-edges;
       computed = all-computed;
       conversation = conversed;
     }

@@ -13,6 +13,8 @@ pub mod Transfers
 pub mod Port
 pub mod Pairs
 pub mod Demands
+pub mod Kept
 pub mod Shown
+pub mod Edges
 pub mod Computed
 pub mod Whole

@@ -1,7 +1,9 @@
 -- All that the owner asked for, in one record: proofs/Whole.antt has its one value.
 -- Assumes nothing.
 use Rattle.rules.specs.Demands.{AlwaysAnswered, LowestFirst, RowsExactly, RefusedUnchanged, KeptSound, LoadWhole, LoadCut, ReadWhole, ReadEnds, ReadMoves, TablesOnly, MessageError, ErrorIsHistory, StatusWordShows, PortOnly, PlacesOnly, PacketAnswered, ChecksExactly, OpensExactly, Damage, DamageAnswered, ErrorUnchanged, BlocksAreHistory, ReceiveIsHistory, StatusIsHistory, ReadIsWritten, PipeIsHistory, FramesAreHistory, NoTrace, AsFromPower, NoTracePast, AnswerAlike, AsleepFromPower, AsleepFromShutdown, TransferOnly, ReadsZero}
+use Rattle.rules.specs.Kept.{AwakeIsHistory, FieldsAreHistory, ExchangeIsHistory, ParamsAreHistory, MarksAreHistory, DropGuarded, FreshIs}
 use Rattle.rules.specs.Shown.{Shown}
+use Rattle.rules.specs.Edges.{Edges}
 use Rattle.rules.specs.Computed.{Computed, Conversation}
 
 pub record Whole : Type 0 where
@@ -37,6 +39,14 @@ pub record Whole : Type 0 where
   pub read-is-written : ReadIsWritten
   pub pipe-is-history : PipeIsHistory
   pub frames-are-history : FramesAreHistory
+  -- and the state between them is the history's, where no answer shows it too
+  pub awake-is-history : AwakeIsHistory
+  pub fields-are-history : FieldsAreHistory
+  pub exchange-is-history : ExchangeIsHistory
+  pub params-are-history : ParamsAreHistory
+  pub marks-are-history : MarksAreHistory
+  pub drop-guarded : DropGuarded
+  pub fresh-is : FreshIs
   -- 3. nothing of the past shows after an accepted Initialise, and nothing of parameters, tables and blocks while asleep
   pub no-trace : NoTrace
   pub as-from-power : AsFromPower
@@ -46,5 +56,6 @@ pub record Whole : Type 0 where
   pub asleep-from-shutdown : AsleepFromShutdown
   -- document 01's examples, and what stands beside a statement that judges by a rule's own test
   pub shown : Shown
+  pub edges : Edges
   pub computed : Computed
   pub conversation : Conversation

@@ -174,15 +174,7 @@ fn exchange_of(exchange: u8) -> Exchange {
 }
 
 // With an exchange and a transfer, each by the letter of its text.
-pub fn with_open(
-    on: bool,
-    exchange: u8,
-    transfer: u8,
-    table: u8,
-    n: u8,
-    k: u8,
-    start: u8,
-) -> Pod {
+pub fn with_open(on: bool, exchange: u8, transfer: u8, table: u8, n: u8, k: u8, start: u8) -> Pod {
     let words = Words {
         error: false,
         transfer: transfer_of(transfer, table, n, k, start),

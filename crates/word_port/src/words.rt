@@ -1,6 +1,6 @@
 // The table word port: command word, data words in and out, status word. Only the words of the pod can change.
-use gates::Gate;
 use commands::sound;
+use gates::Gate;
 use rules::Answer;
 use rules::Pod;
 use rules::Refusal;
