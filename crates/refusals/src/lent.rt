@@ -1,11 +1,11 @@
 // Calls on lent memory of these sizes. Before each, every byte of what is lent to be written is 0x5A. The pod that is handed
 // in is initialised or not, in a mode, with so many blocks waiting.
-use rules::Called;
 use told::answered;
 use told::bytes_kept;
 use told::ended;
 use told::handed;
 use told::held;
+use told::spoken;
 use told::store_of;
 use told::tables_kept;
 ghost use Prim.Native.Nat.{_≤_};
@@ -74,12 +74,7 @@ pub fn command_word(what: u8, mode: u8, five: usize, six: usize, seven: usize)
         &mut b[0..six],
         &mut c[0..seven],
     );
-    let answer = worded.answer;
-    let words = worded.words;
-    let called = Called {
-        answer,
-        pod: told::with_port(pod, words),
-    };
+    let called = spoken(pod, worded);
     ended(what, called, 0, tables_kept(a, b, c));
 }
 

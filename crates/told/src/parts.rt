@@ -109,12 +109,18 @@ pub fn came(what: u8, called: Called) {
     say(b'.');
 }
 
-// The same of a table word, which leaves all else of the pod.
-pub fn worded(what: u8, worded: Worded, pod: Pod) {
+// What a table word gives: it leaves all else of the pod.
+pub fn spoken(pod: Pod, worded: Worded) -> Called {
     let answer = worded.answer;
     let words = worded.words;
-    let pod = commands::with_words(pod, words);
-    came(what, Called { answer, pod });
+    Called {
+        answer,
+        pod: commands::with_words(pod, words),
+    }
+}
+
+pub fn worded(what: u8, worded: Worded, pod: Pod) {
+    came(what, spoken(pod, worded));
 }
 
 // The same of a call of the byte pipe.

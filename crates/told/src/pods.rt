@@ -129,11 +129,6 @@ pub fn with_values(i: usize, v: i32, j: usize, w: i32) -> Pod
     commands::with_params(pod, params)
 }
 
-// With the next state of the table port.
-pub fn with_port(pod: Pod, words: Words) -> Pod {
-    commands::with_words(pod, words)
-}
-
 // `O` is the priority store.
 pub fn store_of(store: u8) -> Store {
     match store {
