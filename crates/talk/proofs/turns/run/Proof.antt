@@ -6,11 +6,11 @@ use Rattle.talk.proofs.turns.run.Statement.{statement}
 use Rattle.talk.proofs.turns.run.Tie as tie
 
 abbrev Inv-loop : tie.InvT-loop
-Inv-loop which piece₀ line₀ bytes₀ words₀ room₀ priority₀ ordinary₀ five₀ six₀ seven₀ out₀ pod₀ desk₀ piece line bytes words room priority ordinary five six seven out pod desk =
+Inv-loop which piece₀ line₀ bytes₀ words₀ room₀ load₀ priority₀ ordinary₀ five₀ six₀ seven₀ out₀ pod₀ desk₀ piece line bytes words room load priority ordinary five six seven out pod desk =
     Fine desk
 
 abbrev μ-loop : tie.MeasureT-loop
-μ-loop which piece₀ line₀ bytes₀ words₀ room₀ priority₀ ordinary₀ five₀ six₀ seven₀ out₀ pod₀ desk₀ piece line bytes words room priority ordinary five six seven out pod desk =
+μ-loop which piece₀ line₀ bytes₀ words₀ room₀ load₀ priority₀ ordinary₀ five₀ six₀ seven₀ out₀ pod₀ desk₀ piece line bytes words room load priority ordinary five six seven out pod desk =
     desk .left
 
 fresh-requires : tie.Need-fresh-requires Inv-loop μ-loop
@@ -38,14 +38,14 @@ asked-requires : tie.Need-asked-requires Inv-loop μ-loop
 asked-requires c κs = search needs
 
 answer-requires : tie.Need-answer-requires Inv-loop μ-loop
-answer-requires c κs = c .before .before .before .before .before .before .before .before .before .before .before .before .before .before .before .turn .ensures .room
+answer-requires c κs = c .before .before .before .before .before .before .before .before .before .before .before .before .before .before .before .before .turn .ensures .room
 
 loop-less-2 : tie.Need-loop-less-2 Inv-loop μ-loop
-loop-less-2 c = c .before .before .before .before .before .before .before .before .before .before .before .before .before .before .before .before .before .turn .ensures .less
+loop-less-2 c = c .before .before .before .before .before .before .before .before .before .before .before .before .before .before .before .before .before .before .turn .ensures .less
 
 loop-again-2 : tie.Need-loop-again-2 Inv-loop μ-loop
 loop-again-2 c =
-    let ready = c .before .before .before .before .before .before .before .before .before .before .before .before .before .before .before .before .before .turn .ensures in
+    let ready = c .before .before .before .before .before .before .before .before .before .before .before .before .before .before .before .before .before .before .turn .ensures in
     record {
       start = ready .fine .start;
       piece = ready .fine .piece;
