@@ -1,0 +1,4 @@
+pub mod Names
+pub mod Reading
+pub mod Ranges
+pub mod Asked
