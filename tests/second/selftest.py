@@ -1,8 +1,8 @@
 """Document 01's shown examples, asserted of the model."""
 
 from model import Pod, console_line, session_line
-from ports.blocks import ORDINARY, PRIORITY
 from ports.packets import crc, is_acknowledgement, sealed
+from ports.sizes import ORDINARY, PRIORITY
 
 FIELDS = bytes.fromhex("00 0000 00000000 0010 0010 00000080 00000080 03E8")
 
@@ -92,7 +92,7 @@ def drop_without_a_block():
     assert pod.packet(acknowledgement) == b"" and pod.remaining[PRIORITY] == 16
     pod.put(PRIORITY, bytes(256))
     pod.remaining[PRIORITY], pod.exchange = 0, PRIORITY
-    assert pod.packet(acknowledgement) == b"" and len(pod.blocks[PRIORITY]) == 1
+    assert pod.packet(acknowledgement) == b"" and pod.waiting[PRIORITY] == 1
     assert pod.remaining == {PRIORITY: 0, ORDINARY: 128}
 
 
