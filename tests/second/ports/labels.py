@@ -19,6 +19,11 @@ def hit(label):
     COUNTS[label] += 1
 
 
+def clear():
+    """Count anew."""
+    COUNTS.update(dict.fromkeys(COUNTS, 0))
+
+
 def missing(start=""):
     """The labels, of those with this start, that no call has reached."""
     return [label for label, count in COUNTS.items() if count == 0 and label.startswith(start)]
