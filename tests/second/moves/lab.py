@@ -193,6 +193,25 @@ def words_on(s):
         move(s)
 
 
+def reads(s):
+    """A read place or a given address near the table's end or any, and a read."""
+    table = s.rng.choice((5, 6, 7))
+    n, size = words.some_n(s.rng), SIZES[table]
+    near = size - (n - 3) + s.rng.randint(0, 1)
+    name, value = s.rng.choice((("place%d" % table, min(near, size)), ("address", near), ("address", 65535),
+                                ("address", 65536 - (n - 3)), ("address", s.rng.getrandbits(16))))
+    set_parts(s, ["initialised 1", "address -1", "%s %d" % (name, value)])
+    words.say_command(s, words.command_word(table, n, words.READ))
+
+
+def pipe(s):
+    """Bytes gathered and timeouts near their most, and what the pipe and the frame do."""
+    gathered, timeouts = s.rng.choice((0, 6, 7, 7)), s.rng.choice((0, 14, 15, 15))
+    set_parts(s, ["initialised 1", "gathered %d" % gathered, "timeouts %d" % timeouts])
+    for _ in range(s.rng.randint(1, 3)):
+        s.rng.choice((bench.one_pipe_byte, bench.timeout, bench.timeout, bench.samples))(s)
+
+
 def edge(s, chosen=None, name=None):
     """One outside a bound and a call, then one inside it and a call."""
     chosen = chosen or s.rng.choice(EDGES)

@@ -9,6 +9,6 @@ def make():
     """The session."""
     book = Book()
     for part in (forms.names, forms.numbers, forms.transfers, forms.lent, bounds.kept_memory,
-                 rows.sizes, rows.unused, rows.edges, rows.orders, bounds.bounds):
+                 bounds.free_parts, rows.sizes, rows.unused, rows.edges, rows.orders, bounds.bounds):
         part(book)
     return book

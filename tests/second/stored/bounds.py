@@ -1,8 +1,9 @@
 """Memory that is kept, and each bound of the state with every call."""
 
 from moves.edges import EDGES
+from ports.sizes import SIZES
 
-from .book import CALLS, INITIALISE, awake, packet, put
+from .book import CALLS, INITIALISE, READ, awake, command, packet, put
 
 
 def kept_memory(book):
@@ -26,6 +27,24 @@ def kept_memory(book):
                          "exchange %d" % code])
             book.call(packet("%02X017E" % code))
     book.call(b"Z")
+
+
+def free_parts(book):
+    """What no bound holds, at its greatest: flags, seconds, limits, marks, and the given address
+    with reads up to the table's end and past it."""
+    awake(book)
+    book.settle(["flags 65535", "seconds 4294967295", "limit0 65535", "limit1 4294967295", "remaining1 4294967295"]
+                + ["written%d 1" % id for id in range(1, 13)])
+    for line in (packet("9101"), packet("91017E"), packet("9601"), packet("96017E"), b"S"):
+        book.call(line)
+    for table, size in SIZES.items():
+        for n in (4, 64):
+            for start in (size - (n - 3), size - (n - 3) + 1, 65536 - (n - 3), 65535):
+                book.settle(["transfer -1", "error 0", "address %d" % start])
+                book.call(command(table, n, READ))
+            for place in (size - (n - 3), size - (n - 3) + 1, size):
+                book.settle(["transfer -1", "error 0", "address -1", "place%d %d" % (table, place)])
+                book.call(command(table, n, READ))
 
 
 def bounds(book):
