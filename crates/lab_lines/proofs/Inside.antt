@@ -20,9 +20,9 @@ use Rattle.lab_sets.specs.declared.Change.the-variants as change
 use Rattle.lab_sets.specs.Ranges.{most, cellMost, inRange}
 use Rattle.lab_lines.specs.declared.Number.{Number}
 use Rattle.lab_lines.specs.declared.Numbers.{Numbers}
-use Rattle.lab_lines.specs.declared.Part.{Part}
-use Rattle.lab_lines.specs.declared.Part.the-variants as part
-use Rattle.lab_lines.specs.Names.{partNamed}
+use Rattle.lab_names.specs.declared.Part.{Part}
+use Rattle.lab_names.specs.declared.Part.the-variants as part
+use Rattle.lab_names.specs.Names.{partNamed}
 use Rattle.lab_lines.specs.Reading.{numbersIn, numbersRead}
 use Rattle.lab_lines.specs.Ranges.{upTo, minusOne, rightSize}
 use Rattle.lab_lines.specs.Asked.{cellAsked, valueAsked, exchangeOf, exchangeAsked, addressAsked, moving, transferOf, numberAt, allBytes, fiveAsked, only, transferAsked, thingAsked, askedOf, nameEnd, changeIn}

@@ -17,13 +17,13 @@ use Rattle.tables.specs.Port.{header}
 use Rattle.rules.specs.declared.Exchange.the-variants.{Closed, Status, Read as reading, Receive}
 use Rattle.lab_sets.specs.declared.Cell.{Cell}
 use Rattle.lab_sets.specs.declared.Thing.{Thing}
-use Rattle.lab_lines.specs.declared.Part.{Part}
-use Rattle.lab_lines.specs.declared.Part.the-variants.{Unknown, Cell as aCell, Value as aValue, Exchange as anExchange, Address as anAddress, Transfer as aTransfer, Thing as aThing}
+use Rattle.lab_names.specs.declared.Part.{Part}
+use Rattle.lab_names.specs.declared.Part.the-variants.{Unknown, Cell as aCell, Value as aValue, Exchange as anExchange, Address as anAddress, Transfer as aTransfer, Thing as aThing}
 use Rattle.lab_lines.specs.declared.Number.{Number}
 use Rattle.lab_lines.specs.declared.Numbers.{Numbers}
 use Rattle.lab_sets.specs.declared.Change.{Change}
 use Rattle.lab_sets.specs.declared.Change.the-variants.{Nothing, Cell as cell, Value, Exchange, Address, Transfer, Thing as thing}
-use Rattle.lab_lines.specs.Names.{partNamed}
+use Rattle.lab_names.specs.Names.{partNamed}
 use Rattle.lab_lines.specs.Reading.{noNumber, number, numbersIn, numbersRead}
 use Rattle.lab_sets.specs.Ranges.{most, cellMost}
 use Rattle.lab_lines.specs.Ranges.{upTo, minusOne, rightSize}

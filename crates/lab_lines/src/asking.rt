@@ -1,8 +1,6 @@
 // What a line of `X` or `L` asks for.
 use crate::Number;
 use crate::Numbers;
-use crate::Part;
-use crate::names::named;
 use crate::ranges::cell_most;
 use crate::ranges::minus_one;
 use crate::ranges::right_size;
@@ -12,6 +10,8 @@ use crate::transfers::five;
 use crate::transfers::only;
 use blocks::Store;
 use bytes::scan::find;
+use lab_names::Part;
+use lab_names::named;
 use lab_sets::Cell;
 use lab_sets::Change;
 use lab_sets::Thing;

@@ -1,28 +1,11 @@
 // The lines that `lab` has besides the console's: `X` sets a part of the state, `L` lends the next call a thing at another size. What
 // they ask for is read here.
 mod asking;
-mod names;
 mod ranges;
 mod reading;
 mod transfers;
 
 pub use asking::change;
-use lab_sets::Cell;
-use lab_sets::Thing;
-
-// What a name stands for. A parameter has its id.
-pub enum Part {
-    Unknown,
-    Cell(Cell),
-    Value(u8),
-    Exchange,
-    Address,
-    Transfer,
-    Thing(Thing),
-}
-
-// A name with its line's letter, and what it stands for.
-pub struct Name(pub [u8; 14], pub Part);
 
 // A number: whether it is below 0, and its size.
 pub struct Number {

@@ -5,7 +5,7 @@ use mathlib.Core.Path.{sym, ap, ap₂, _∙_}
 use mathlib.Core.List.{List}
 use lib.Seq.{length-take-le}
 use denote.Ref.{now}
-use Rattle.lab_lines.specs.Names.{partNamed}
+use Rattle.lab_names.specs.Names.{partNamed}
 use Rattle.lab_lines.specs.Reading.{numbersIn, numbersRead}
 use Rattle.lab_lines.specs.Asked.{askedOf, changeIn}
 use Rattle.lab_lines.proofs.Decimals.{the-rest}
