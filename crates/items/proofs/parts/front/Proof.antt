@@ -9,9 +9,6 @@ use borrow.Author.Needs.{needs}
 use Rattle.items.proofs.parts.front.Statement.{statement}
 use Rattle.items.proofs.parts.front.Tie as tie
 
-slice-aggregate-result : tie.Need-slice-aggregate-result
-slice-aggregate-result c = sym (length-take-le _ _ (search needs))
-
 returns : tie.Need-returns
 returns c =
     let a = c .before .before .args in
@@ -23,4 +20,4 @@ returns-2 c =
     (sym (take-all (a .n) (now (a .text)) (omega arith)), le-refl (length (now (a .text))))
 
 pub front-spec : {M : Type 1} → statement M
-front-spec = tie.close (tie.spec slice-aggregate-result returns returns-2)
+front-spec = tie.close (tie.spec (λ c. sym (length-take-le _ _ (search needs))) returns returns-2)
