@@ -14,9 +14,6 @@ use borrow.Author.Needs.{needs}
 use Rattle.answers.proofs.put_frames.Statement.{statement}
 use Rattle.answers.proofs.put_frames.Tie as tie
 
-append-requires : tie.Need-append-requires
-append-requires c κs = let x : length (c .before .before .before .before .before .args .frames .an03) ≡ 8 = search needs in omega arith
-
 append-requires-2 : tie.Need-append-requires-2
 append-requires-2 c κs =
     let x : length (c .before .before .before .before .before .before .before .before .before .args .frames .an47) ≡ 8 = search needs in
@@ -39,5 +36,6 @@ returns c =
 
 pub put-frames-spec : {M : Type 1} → statement M
 put-frames-spec =
-    tie.close (tie.spec (λ c. search needs) (λ c. search needs) append-requires (λ c. search needs) (λ c. search needs) append-requires-2
-    (λ c. search needs) (λ c κs. search needs) (λ c. search needs) returns)
+    tie.close (tie.spec (λ c. search needs) (λ c. search needs)
+    (λ c κs. let x : length (c .before .before .before .before .before .args .frames .an03) ≡ 8 = search needs in omega arith) (λ c. search needs)
+    (λ c. search needs) append-requires-2 (λ c. search needs) (λ c κs. search needs) (λ c. search needs) returns)

@@ -11,9 +11,6 @@ use borrow.Author.Needs.{needs}
 use Rattle.answers.proofs.put_sent.Statement.{statement}
 use Rattle.answers.proofs.put_sent.Tie as tie
 
-put-line-requires : tie.Need-put-line-requires
-put-line-requires c κs = let x : length (c .before .before .before .before .before .args .sent .bytes) ≡ 8 = search needs in omega (arith, c .front .ensures .1)
-
 returns : tie.Need-returns
 unfolding sentBytes
 returns c =
@@ -26,4 +23,7 @@ returns c =
     (r .ensures .0, (r .ensures .1 .0, omega (arith, r .ensures .1 .1, f .ensures .1)))
 
 pub put-sent-spec : {M : Type 1} → statement M
-put-sent-spec = tie.close (tie.spec (λ c. search needs) (λ c κs. search needs) put-line-requires (λ c. search needs) returns)
+put-sent-spec =
+    tie.close (tie.spec (λ c. search needs) (λ c κs. search needs)
+    (λ c κs. let x : length (c .before .before .before .before .before .args .sent .bytes) ≡ 8 = search needs in omega (arith, c .front .ensures .1))
+    (λ c. search needs) returns)

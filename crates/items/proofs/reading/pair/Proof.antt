@@ -9,11 +9,6 @@ use borrow.Author.Needs.{needs}
 use Rattle.items.proofs.reading.pair.Statement.{statement}
 use Rattle.items.proofs.reading.pair.Tie as tie
 
-add-values : tie.Need-add-values
-add-values c =
-    let both = c .args .low * 256 + c .args .high in
-    omega (arith, and-le-r both 3855, and-le-r (both / 64) 771)
-
 mul-written : tie.Need-mul-written
 mul-written c =
     let x = c .args in
@@ -45,7 +40,8 @@ returns-2 c =
 pub pair-spec : {M : Type 1} → statement M
 pair-spec =
     tie.close (tie.spec (λ c. search needs) (λ c. search needs) (λ c. let x = c .args in omega (arith, and-le-r ((x .low * 256 + x .high) / 64) 771))
-    add-values (λ c. rw (values (c .args .high) (c .args .low) (omega arith) (omega arith)) (omega arith))
+    (λ c. let both = c .args .low * 256 + c .args .high in omega (arith, and-le-r both 3855, and-le-r (both / 64) 771))
+    (λ c. rw (values (c .args .high) (c .args .low) (omega arith) (omega arith)) (omega arith))
     (λ c. rw (values (c .args .high) (c .args .low) (omega arith) (omega arith)) (omega arith)) mul-written add-written-3 returns
     (λ c. rw (values (c .before .args .high) (c .before .args .low) (omega arith) (omega arith)) (omega arith))
     (λ c. rw (values (c .before .args .high) (c .before .args .low) (omega arith) (omega arith)) (omega arith)) returns-2)

@@ -9,11 +9,6 @@ use borrow.Author.Needs.{needs}
 use Rattle.lines.proofs.asking.put_line.Statement.{statement}
 use Rattle.lines.proofs.asking.put_line.Tie as tie
 
-returns : tie.Need-returns
-returns c =
-    let a = c .before .before .before .args in
-    no-bytes (putIn (now (a .line))) (now (a .bytes)) (put-short (now (a .line)) (c .if1 .taken))
-
 returns-2 : tie.Need-returns-2
 returns-2 c =
     let a = c .before .before .before .before .before .args in
@@ -42,6 +37,8 @@ returns-5 c =
 
 pub put-line-spec : {M : Type 1} → statement M
 put-line-spec =
-    tie.close (tie.spec returns (λ c. search needs) returns-2 (λ c. search needs) (λ c. search needs) (λ c. search needs) (λ c. search needs)
-    (λ c κs. search needs) (λ c κs. search needs) (λ c. search needs) returns-3 (λ c. search needs) (λ c. search needs) (λ c. search needs)
-    (λ c. search needs) (λ c κs. search needs) (λ c κs. search needs) (λ c. search needs) returns-4 returns-5)
+    tie.close (tie.spec
+    (λ c. let a = c .before .before .before .args in no-bytes (putIn (now (a .line))) (now (a .bytes)) (put-short (now (a .line)) (c .if1 .taken)))
+    (λ c. search needs) returns-2 (λ c. search needs) (λ c. search needs) (λ c. search needs) (λ c. search needs) (λ c κs. search needs)
+    (λ c κs. search needs) (λ c. search needs) returns-3 (λ c. search needs) (λ c. search needs) (λ c. search needs) (λ c. search needs)
+    (λ c κs. search needs) (λ c κs. search needs) (λ c. search needs) returns-4 returns-5)

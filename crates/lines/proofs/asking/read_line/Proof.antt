@@ -5,11 +5,6 @@ use borrow.Author.Needs.{needs}
 use Rattle.lines.proofs.asking.read_line.Statement.{statement}
 use Rattle.lines.proofs.asking.read_line.Tie as tie
 
-returns : tie.Need-returns
-returns c =
-    let a = c .before .before .before .before .args in
-    line-empty (now (a .line)) (now (a .bytes)) (now (a .words)) (c .if1 .taken)
-
 returns-2 : tie.Need-returns-2
 returns-2 c =
     let a = c .before .before .before .before .before .before .before .before .before .before .args in
@@ -35,6 +30,7 @@ returns-5 c =
 
 pub read-line-spec : {M : Type 1} → statement M
 read-line-spec =
-    tie.close (tie.spec returns (λ c. search needs) (λ c κs. search needs) (λ c. search needs) returns-2 (λ c κs. search needs) (λ c. search needs)
-    returns-3 (λ c κs. search needs) (λ c. search needs) returns-4 (λ c. search needs) (λ c. search needs) (λ c. search needs) (λ c κs. search needs)
-    returns-5)
+    tie.close (tie.spec
+    (λ c. let a = c .before .before .before .before .args in line-empty (now (a .line)) (now (a .bytes)) (now (a .words)) (c .if1 .taken))
+    (λ c. search needs) (λ c κs. search needs) (λ c. search needs) returns-2 (λ c κs. search needs) (λ c. search needs) returns-3
+    (λ c κs. search needs) (λ c. search needs) returns-4 (λ c. search needs) (λ c. search needs) (λ c. search needs) (λ c κs. search needs) returns-5)

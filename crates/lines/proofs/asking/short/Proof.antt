@@ -16,11 +16,6 @@ returns c =
     rw (c .before .before .if1 .taken)
     (c .word-of .ensures ∙ ap (λ (w : ℕ). sayLine (wordAsked (a .letter) w)) (c .before .one-word .ensures))
 
-returns-2 : tie.Need-returns-2
-unfolding shortAsked
-returns-2 c =
-    rw (c .before .before .if2 .taken) (c .byte-of .ensures ∙ ap (λ (b : ℕ). sayLine (byteAsked b)) (c .before .one-byte .ensures))
-
 returns-3 : tie.Need-returns-3
 unfolding shortAsked
 returns-3 c =
@@ -34,6 +29,8 @@ returns-4 c =
     rw (c .before .before .if1 .left, ne-eqb (a .letter) 73 (c .before .if2 .left), ne-eqb (length (now (a .text))) 0 (c .if3 .left))
 
 pub short-spec : {M : Type 1} → statement M
+unfolding shortAsked
 short-spec =
-    tie.close (tie.spec (λ c κs. search needs) (λ c κs. search needs) returns (λ c κs. search needs) (λ c κs. search needs) returns-2
+    tie.close (tie.spec (λ c κs. search needs) (λ c κs. search needs) returns (λ c κs. search needs) (λ c κs. search needs)
+    (λ c. rw (c .before .before .if2 .taken) (c .byte-of .ensures ∙ ap (λ (b : ℕ). sayLine (byteAsked b)) (c .before .one-byte .ensures)))
     (λ c κs. search needs) returns-3 returns-4)

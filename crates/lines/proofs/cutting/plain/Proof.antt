@@ -31,13 +31,7 @@ loop-again c =
           omega (arith, past t (l .k) (omega arith) (λ n. omega arith), l .inv .1 (and-left (l .all) (leb 32 at) e)),
     )
 
-returns : tie.Need-returns Inv-loop μ-loop
-returns c =
-    λ e.
-    let l = c .before .loop in
-    omega (arith, l .inv .1 e, none-left (now (c .before .before .args .part)) (l .k) (omega arith))
-
 pub plain-spec : {M : Type 1} → statement M
 plain-spec =
     tie.close (tie.spec Inv-loop μ-loop (λ c. (omega arith, λ e. omega arith)) (λ c. omega arith) (λ c. omega arith) (λ c. omega arith) loop-again
-    returns)
+    (λ c. λ e. let l = c .before .loop in omega (arith, l .inv .1 e, none-left (now (c .before .before .args .part)) (l .k) (omega arith))))

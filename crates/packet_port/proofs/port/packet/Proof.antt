@@ -12,11 +12,6 @@ use borrow.Author.Needs.{needs}
 use Rattle.packet_port.proofs.port.packet.Statement.{statement}
 use Rattle.packet_port.proofs.port.packet.Tie as tie
 
-hear-requires : tie.Need-hear-requires
-hear-requires c κs =
-    let e = c .before in
-    packet-fits _ _ _ _ bare _ (rw (e .enum-told .given .1) at (e .before .before .packet-gate .ensures bare)) .0
-
 restart-requires : tie.Need-restart-requires
 restart-requires c κs =
     let e = c .before .before .before .before .before .before .before .before in
@@ -39,20 +34,8 @@ returns-2 c l =
 pub packet-spec : {M : Type 1} → statement M
 unfolding packetCall answerSaid
 packet-spec =
-    tie.close
-    (tie.spec
-    (λ c κs. search needs)
-    (λ c. search needs)
-    (λ c. search needs)
-    hear-requires
-    restart-requires
-    (λ c. search needs)
-    (λ c. search needs)
-    (λ c. search needs)
-    (λ c. search needs)
-    (λ c l. refused-is _ _ _ (rw (c .before .gate .given .1) at (c .before .before .before .packet-gate .ensures l)))
-    (λ c. search needs)
-    (λ c. search needs)
-    (λ c. search needs)
-    (λ c. search needs)
-    returns-2)
+    tie.close (tie.spec (λ c κs. search needs) (λ c. search needs) (λ c. search needs)
+    (λ c κs. let e = c .before in packet-fits _ _ _ _ bare _ (rw (e .enum-told .given .1) at (e .before .before .packet-gate .ensures bare)) .0)
+    restart-requires (λ c. search needs) (λ c. search needs) (λ c. search needs) (λ c. search needs)
+    (λ c l. refused-is _ _ _ (rw (c .before .gate .given .1) at (c .before .before .before .packet-gate .ensures l))) (λ c. search needs)
+    (λ c. search needs) (λ c. search needs) (λ c. search needs) returns-2)

@@ -34,13 +34,5 @@ returns-4 c l =
 pub packet-gate-spec : {M : Type 1} → statement M
 unfolding refusalNumber
 packet-gate-spec =
-    tie.close
-    (tie.spec
-    (λ c l. here (lt-ltb _ _ (c .if1 .taken)))
-    (λ c κs. search needs)
-    (λ c κs. search needs)
-    (λ c κs. search needs)
-    returns-2
-    (λ c κs. search needs)
-    returns-3
-    returns-4)
+    tie.close (tie.spec (λ c l. here (lt-ltb _ _ (c .if1 .taken))) (λ c κs. search needs) (λ c κs. search needs) (λ c κs. search needs) returns-2
+    (λ c κs. search needs) returns-3 returns-4)

@@ -22,11 +22,5 @@ returns-2 c l =
 pub data-out-spec : {M : Type 1} → statement M
 unfolding wordCall wordLent answerSaid
 data-out-spec =
-    tie.close
-    (tie.spec
-    (λ c κs. search needs)
-    (λ c. search needs)
-    (λ c. search needs)
-    data-out-requires
-    (λ c l. refused-is _ _ _ (rw (c .before .gate .given .1) at (c .before .before .before .word-gate .ensures)))
-    returns-2)
+    tie.close (tie.spec (λ c κs. search needs) (λ c. search needs) (λ c. search needs) data-out-requires
+    (λ c l. refused-is _ _ _ (rw (c .before .gate .given .1) at (c .before .before .before .word-gate .ensures))) returns-2)

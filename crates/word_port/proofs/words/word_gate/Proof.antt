@@ -20,10 +20,5 @@ returns-3 c =
 pub word-gate-spec : {M : Type 1} → statement M
 unfolding refusalNumber
 word-gate-spec =
-    tie.close
-    (tie.spec
-    (λ c κs. search needs)
-    (λ c. here (as-row (c .before .sized .ensures) (c .if1 .taken)))
-    (λ c κs. search needs)
-    returns-2
+    tie.close (tie.spec (λ c κs. search needs) (λ c. here (as-row (c .before .sized .ensures) (c .if1 .taken))) (λ c κs. search needs) returns-2
     returns-3)
