@@ -7,12 +7,12 @@ use Rattle.rows.specs.Rows.{Said, refused, gave}
 use Rattle.blocks.specs.declared.Store.{Store}
 use Rattle.blocks.specs.declared.Store.the-variants.{Priority, Ordinary}
 use Rattle.tables.specs.Tables.{three}
 use Rattle.rules.specs.State.{withRing, withPipe, withTables}
 use Rattle.rules.specs.Refusals.{Given}
 use Rattle.rules.specs.Families.{command, status, byte}
 use Rattle.rules.specs.World.{World, withPod, Call, power, packet, deadline, put, word, pipe, samples, step}
 use Rattle.rules.specs.Demands.{justPowered}
-use Rattle.rules.specs.Shown.{justInitialised, Line, line, AsExpected}
+use Rattle.examples.specs.Shown.{justInitialised, Line, line, AsExpected}
 
 -- the number that a call is refused by, none where it is answered
 abbrev pub refusedBy : Said Given → List ℕ

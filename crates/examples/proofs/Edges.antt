@@ -16,13 +16,13 @@ use Rattle.tables.specs.Tables.{listed, startTable, tablesSized}
 use Rattle.pipe.specs.Input.{sentPacket, sentBytes, emptyInput, freshInput, pipeByte, soundInput}
 use Rattle.pipe.specs.Pipe.{freshPipe, soundPipe}
 use Rattle.frames.specs.Samples.{boundedOf}
 use Rattle.rules.specs.Calls.{powerCall, packetHeard, meantBody, replyBytes, spokenBytes, answered, packetCall, deadlineCall, putCall, wordCall, pipeCall, samplesCall}
 use Rattle.rules.specs.Families.{wordOf, wordLent, pipeOf}
 use Rattle.rules.specs.Obey.{checksOf, initialisedPod, doneBy, obeyOf}
-use Rattle.rules.specs.Shown.{justInitialised}
+use Rattle.examples.specs.Shown.{justInitialised}
 use Rattle.rules.specs.State.{freshFields, freshPod, restful, soundPod}
 use Rattle.rules.specs.World.{step}
-use Rattle.rules.specs.Edges.{Edges}
+use Rattle.examples.specs.Edges.{Edges}
 
 pub all-edges : Edges
 unfolding ran poly leaving bitIn bits bitsIn crcFrom crcOf withCrc answerOf fieldBytes bodyOf commandBytes laidOut numbersAt fieldsOf fieldsIn fieldsBounded findIn listedIn codeRow isCode commandPlace commandRow highFirst numberOf numberAt crcRight acknowledges packetRead isId inRows soundParams startParams storeSized soundRing putRing soundPlaces soundTransfer soundWords startWords statusOf listed startTable tablesSized sentPacket sentBytes emptyInput freshInput pipeByte soundInput freshPipe soundPipe boundedOf powerCall packetHeard meantBody replyBytes spokenBytes answered packetCall deadlineCall putCall wordCall pipeCall samplesCall wordOf wordLent pipeOf checksOf initialisedPod doneBy obeyOf justInitialised freshFields freshPod restful soundPod step

@@ -34,18 +34,18 @@ use Rattle.pipe.specs.Pipe.{freshPipe, soundPipe}
 use Rattle.frames.specs.Fields.{placed, frame}
 use Rattle.frames.specs.Layout.{lines03, lines47, framesOf}
 use Rattle.frames.specs.Samples.{sampleAt, sumOf, averageOf, averagesOf, boundedOf}
 use Rattle.rules.specs.Calls.{powerCall, packetHeard, meantBody, replyBytes, spokenBytes, answered, packetCall, deadlineCall, putCall, wordCall, pipeCall, samplesCall}
 use Rattle.rules.specs.Families.{WordCall, command, dataIn, dataOut, status, byte, timeout, wordOf, wordLent, pipeOf}
 use Rattle.rules.specs.History.{succeeded, errored, eventOf, events}
 use Rattle.rules.specs.Obey.{checksOf, initialisedPod, doneBy, obeyOf, matches, dropFrom, settled, acknowledgedOf, reportOf}
-use Rattle.rules.specs.Shown.{order, loading, reading, load, justInitialised}
+use Rattle.examples.specs.Shown.{order, loading, reading, load, justInitialised}
 use Rattle.rules.specs.State.{freshFields, freshPod, restful, soundPod}
 use Rattle.rules.specs.Transfers.{Loads, Loading, Reads, cutsLoad, cutsRead, cuts, leftOpen, writtenIn, readsIn}
 use Rattle.rules.specs.World.{World, Call, power, packet, deadline, put, word, pipe, samples, Told, next, step, final, tells}
 use Rattle.rules.specs.Pairs.{Accepts, ShutsDown, Seen, seenIn, Asleep}
 use Rattle.rules.specs.Checks.{damaged}
-use Rattle.rules.specs.Edges.{Edges}
-use Rattle.rules.proofs.Edges.{all-edges}
+use Rattle.examples.specs.Edges.{Edges}
+use Rattle.examples.proofs.Edges.{all-edges}
 
 -- a command as a call, in a room of its size
 abbrev asks : Command → Call

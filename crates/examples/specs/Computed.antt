@@ -8,14 +8,11 @@ use Rattle.rows.specs.Rows.{gave}
 use Rattle.blocks.specs.declared.Store.{Store}
 use Rattle.blocks.specs.declared.Store.the-variants.{Priority, Ordinary}
 use Rattle.tables.specs.Tables.{three, listed}
 use Rattle.rules.specs.State.{Lent, freshPod}
 use Rattle.rules.specs.Refusals.{done}
 use Rattle.rules.specs.Families.{status, byte}
 use Rattle.rules.specs.World.{world, Call, power, packet, deadline, put, word, pipe, samples, Told, told, answering, step, final, tells}
-use Rattle.rules.specs.Shown.{justInitialised, wordsOut, statusAfter, fiveAfter, order, loading, reading, load, read, Line, line, AsExpected}
-
-abbrev pub sevenAfter : List Call → List ℕ
-sevenAfter cs = final justInitialised cs .lent .tables .seven
+use Rattle.examples.specs.Shown.{justInitialised, wordsOut, statusAfter, fiveAfter, order, loading, reading, load, read, Line, line, AsExpected}
 
 -- a Shutdown
 abbrev pub off : List Call
