@@ -135,9 +135,12 @@ def text(name):
     return clang(*ways, "-S", "-emit-llvm", "-x", "ir", kept(name), "-o", "-").decode()
 
 
+@functools.cache
 def defined(call):
-    """The line by which a call of the pod is defined, whichever of its files it stands in."""
-    return re.compile(rf'^define internal (.*@"pod::(?:\w+::)*{call}"\(.*\)) (#\d+ {{)$', re.M)
+    """The line by which a call of the pod is defined, whichever crate and file it stands in: the crate `pod` names it."""
+    names = (TOP / "crates" / "pod" / "src" / "lib.rt").read_text()
+    found = re.findall(rf"^pub use (\w+)::{call};$", names, re.M) or fail(f"the crate pod names no {call}")
+    return re.compile(rf'^define internal (.*@"{found[0]}::(?:\w+::)*{call}"\(.*\)) (#\d+ {{)$', re.M)
 
 
 def external(ir):
