@@ -40,20 +40,7 @@ pub packet-spec : {M : Type 1} → statement M
 unfolding packetCall answerSaid
 packet-spec =
     tie.close
-    (tie.spec
-    (λ c κs. search needs)
-    (λ c κs. search needs)
-    (λ c. search needs)
-    (λ c. search needs)
-    hear-requires
-    restart-requires
-    (λ c. search needs)
-    (λ c. search needs)
-    (λ c. search needs)
-    (λ c. search needs)
+    (tie.spec (λ c κs. search needs) (λ c κs. search needs) (λ c. search needs) (λ c. search needs) hear-requires restart-requires (λ c. search needs)
+    (λ c. search needs) (λ c. search needs) (λ c. search needs)
     (λ c l. refused-is _ _ _ (rw (c .before .gate .given .1) at (c .before .before .before .packet-gate .ensures l _ (c .before .before .before .before .before .before .before .before .sound .ensures))))
-    (λ c. search needs)
-    (λ c. search needs)
-    (λ c. search needs)
-    (λ c. search needs)
-    returns-2)
+    (λ c. search needs) (λ c. search needs) (λ c. search needs) (λ c. search needs) returns-2)

@@ -35,11 +35,5 @@ pub packet-gate-spec : {M : Type 1} → statement M
 unfolding refusalNumber
 packet-gate-spec =
     tie.close
-    (tie.spec
-    (λ c l p ok. here (lt-ltb _ _ (c .if1 .taken)))
-    (λ c κs. search needs)
-    (λ c κs. search needs)
-    (λ c κs. search needs)
-    returns-2
-    returns-3
+    (tie.spec (λ c l p ok. here (lt-ltb _ _ (c .if1 .taken))) (λ c κs. search needs) (λ c κs. search needs) (λ c κs. search needs) returns-2 returns-3
     returns-4)

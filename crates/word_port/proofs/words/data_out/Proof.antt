@@ -23,11 +23,6 @@ pub data-out-spec : {M : Type 1} → statement M
 unfolding wordCall wordLent answerSaid
 data-out-spec =
     tie.close
-    (tie.spec
-    (λ c κs. search needs)
-    (λ c κs. search needs)
-    (λ c. search needs)
-    (λ c. search needs)
-    data-out-requires
+    (tie.spec (λ c κs. search needs) (λ c κs. search needs) (λ c. search needs) (λ c. search needs) data-out-requires
     (λ c l. refused-is _ _ _ (rw (c .before .gate .given .1) at (c .before .before .before .word-gate .ensures _ (c .before .before .before .before .sound .ensures))))
     returns-2)

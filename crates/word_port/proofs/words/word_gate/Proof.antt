@@ -21,8 +21,4 @@ pub word-gate-spec : {M : Type 1} → statement M
 unfolding refusalNumber
 word-gate-spec =
     tie.close
-    (tie.spec
-    (λ c κs. search needs)
-    (λ c p ok. here (as-row (c .before .sized .ensures) (c .if1 .taken)))
-    returns-2
-    returns-3)
+    (tie.spec (λ c κs. search needs) (λ c p ok. here (as-row (c .before .sized .ensures) (c .if1 .taken))) returns-2 returns-3)
