@@ -1,0 +1,91 @@
+"""Lines for the programs with what each must print, from the pages, from the second model, and from the programs."""
+import subprocess
+
+import model
+from .pages import ROOT, Fault, crates
+
+LIMIT = 120         # seconds for one run
+MOST = 12           # differences that are printed
+
+
+class Desk:
+    """All lines that the pages lead to. The model is asked at once, the programs at the end, in one run each."""
+
+    def __init__(self):
+        self.faults = []
+        self.cases = {"console": [], "lab": []}
+        self.alone = []
+        self.has_lab = "lab" in crates()
+        self.lines = self.skipped = 0
+
+    def fault(self, text):
+        """One more difference."""
+        self.faults.append(text)
+
+    def case(self, where, pairs):
+        """A session of the console from power on: lines, and what the page says they print."""
+        pod = model.Pod()
+        for line, prints in pairs:
+            told = model.console_line(pod, line.encode()).decode()
+            if told != prints:
+                self.fault("%s: `%s` prints `%s`, and the second model says `%s`" % (where, cut(line), cut(prints), cut(told)))
+                return
+        self.cases["console"].append((where, [("Z", "Z")] + list(pairs)))
+
+    def lab(self, where, pairs):
+        """A session of lab from power on, left out as long as there is no such program."""
+        if not self.has_lab:
+            self.skipped += len(pairs)
+        else:
+            self.cases["lab"].append((where, [("Z", "Z")] + list(pairs)))
+
+    def session(self, where, pairs):
+        """A session of the packet program, in a run of its own."""
+        pod = model.Pod()
+        for line, prints in pairs:
+            told = model.session_line(pod, line.encode()).decode()
+            if told != prints:
+                self.fault("%s: `%s` prints `%s`, and the second model says `%s`" % (where, cut(line), cut(prints), cut(told)))
+                return
+        self.alone.append((where, pairs))
+
+    def finish(self):
+        """Hold all against the programs."""
+        for program, cases in self.cases.items():
+            if cases:
+                self.compare(program, [(where, *pair) for where, pairs in cases for pair in pairs])
+        for where, pairs in self.alone:
+            self.compare("session", [(where, *pair) for pair in pairs])
+
+    def compare(self, program, wanted):
+        """One run of a program. After a difference the rest of that case says nothing."""
+        text = "".join(line + "\n" for _, line, _ in wanted)
+        got = run(program, text.encode()).stdout.decode("latin-1").split("\n")
+        self.lines += len(wanted)
+        bad = None
+        if len(got) != len(wanted) + 1:
+            self.fault("%s printed %d lines for %d" % (program, len(got) - 1, len(wanted)))
+        for (where, line, prints), came in zip(wanted, got):
+            if came != prints and where != bad:
+                bad = where
+                self.fault("%s: `%s` prints `%s`, and %s prints `%s`" % (where, cut(line), cut(prints), program, cut(came)))
+
+
+def run(program, text, **options):
+    """What a program prints."""
+    options.setdefault("stdout", subprocess.PIPE)
+    return subprocess.run(["./run", program], cwd=ROOT, input=text, timeout=LIMIT, check=False, **options)
+
+
+def cut(text):
+    """A line as it is shown in a difference."""
+    return text if len(text) <= 90 else text[:60] + " .. " + text[-20:]
+
+
+def checks(desk, *parts):
+    """Run checks of tables; one that ends early is one difference."""
+    for part in parts:
+        try:
+            part()
+        except Fault as fault:
+            desk.fault(str(fault))

@@ -1,0 +1,2 @@
+def all(take):
+    return {}
