@@ -57,7 +57,10 @@ def play(desk, sheet):
     for table in sheet.sessions:
         pairs = [(line_of(row, 0), line_of(row, 1)) for row in table]
         where = "%s (%s)" % (table.where, table.heading)
-        {"console": desk.case, "session": desk.session, "lab": desk.lab}[SESSIONS[table.head[0]]](where, pairs)
+        if SESSIONS[table.head[0]] == "lab":
+            desk.lab(where, pairs, alone=True)
+        else:
+            {"console": desk.case, "session": desk.session}[SESSIONS[table.head[0]]](where, pairs)
 
 
 def covered(desk, sheet):

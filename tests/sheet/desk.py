@@ -32,10 +32,13 @@ class Desk:
                 return
         self.cases["console"].append((where, [("Z", "Z")] + list(pairs)))
 
-    def lab(self, where, pairs):
-        """A session of lab from power on, left out as long as there is no such program."""
+    def lab(self, where, pairs, alone=False):
+        """A session of lab from power on, left out as long as there is no such program. One that shows the bytes of the
+        stores, which power on keeps, is played alone."""
         if not self.has_lab:
             self.skipped += len(pairs)
+        elif alone:
+            self.alone.append(("lab", where, pairs))
         else:
             self.cases["lab"].append((where, [("Z", "Z")] + list(pairs)))
 
@@ -47,15 +50,15 @@ class Desk:
             if told != prints:
                 self.fault("%s: `%s` prints `%s`, and the second model says `%s`" % (where, cut(line), cut(prints), cut(told)))
                 return
-        self.alone.append((where, pairs))
+        self.alone.append(("session", where, pairs))
 
     def finish(self):
         """Hold all against the programs."""
         for program, cases in self.cases.items():
             if cases:
                 self.compare(program, [(where, *pair) for where, pairs in cases for pair in pairs])
-        for where, pairs in self.alone:
-            self.compare("session", [(where, *pair) for pair in pairs])
+        for program, where, pairs in self.alone:
+            self.compare(program, [(where, *pair) for pair in pairs])
 
     def compare(self, program, wanted):
         """One run of a program. After a difference the rest of that case says nothing."""

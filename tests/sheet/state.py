@@ -162,7 +162,8 @@ class State:
                 row.fault("its bounds are %d and %d" % bounds[name])
             for value, told in ((least, "D"), (most, "D"), (least - 1, "D !3"), (most + 1, "D !3")):
                 if ranges[name][0] <= value <= ranges[name][1] and name + str(value) != "address-1":
-                    self.desk.lab(row.where, [self.packets.begin(), ("X %s %d" % (name, value), "X"), ("D", told)])
+                    sets = ["remaining0 0", "remaining1 0", "%s %d" % (name, value)]
+                    self.desk.lab(row.where, [self.packets.begin()] + [("X " + one, "X") for one in sets] + [("D", told)])
 
     def check_edges(self):
         """The bounds that hold together, by lab."""
