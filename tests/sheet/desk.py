@@ -2,6 +2,7 @@
 import subprocess
 
 import model
+from ports.refusal import Refused
 from .pages import ROOT, Fault, crates
 
 LIMIT = 120         # seconds for one run
@@ -86,9 +87,12 @@ def cut(text):
 
 
 def checks(desk, *parts):
-    """Run checks of tables; one that ends early is one difference."""
+    """Run checks of tables. One that ends early is one difference, also where a row that it needs is missing or can't be read."""
     for part in parts:
         try:
             part()
         except Fault as fault:
             desk.fault(str(fault))
+        except (LookupError, ValueError, TypeError, AttributeError, Refused) as error:
+            desk.fault("%s.%s: a row that it needs is missing or can't be read: %r" % (
+                getattr(part, "__module__", ""), getattr(part, "__name__", ""), error))

@@ -32,6 +32,8 @@ class Packets:
         self.commands = take("Code", "Command", "Type", "Bytes", "Answer")
         self.fields = take("In", "Field", "From byte", "Bytes", "Least", "Most")
         self.forms = take("Answer", "Byte 0", "Byte 1", "From byte 2")
+        if self.forms.column(0) != ["type 1, done", "type 2, data", "error"]:
+            self.forms.rows[0].fault("the answers are not: type 1, done; type 2, data; error")
         self.done, self.data, self.failed = (self.form(at) for at in range(3))
 
     def form(self, at):
@@ -91,7 +93,10 @@ class Packets:
 
     def check_crc(self):
         """Bytes and their CRC."""
-        for row in self.take("Bytes", "CRC"):
+        table = self.take("Bytes", "CRC")
+        if table.column(0) != ["none", "FF", "FF FF", "31 32 33 34 35 36 37 38 39", "91 01"]:
+            table.rows[0].fault("the bytes are not those of the published check, of none, FF, FF FF and of a Status")
+        for row in table:
             data = b"" if row[0] == "none" else bytes.fromhex(plain(row[0]))
             if "%04X" % crc(data) != plain(row[1]):
                 row.fault("the CRC is %04X" % crc(data))
@@ -243,10 +248,28 @@ class Packets:
         received = (asked(sealed(b"\x95\x01\x7E")), "P -")
         for row in table:
             begun = [self.begin()] + put + [(fetch, block[0]), comes[row[0]]]
-            dropped = row[3].startswith("dropped")
+            dropped = row[3] == "dropped, and remaining falls by 1"
             stays = row[2] == "stays"
+            self.case_exchange(row, begun)
             self.desk.case(row.where, begun + [(fetch, block[dropped])])
             self.desk.case(row.where, begun + [received, (fetch, block[dropped or stays])])
+
+
+    def case_exchange(self, row, begun):
+        """The answer, and what the second model has open then; remaining falls with the block."""
+        pod = model.Pod()
+        for line, _ in begun:
+            model.console_line(pod, line.encode())
+        told = begun[-1][1]
+        kind = "none" if told in ("P -", "D") else "data" if told[5:7] == "01" else "0x" + told[8:10] if told[5:7] == "09" else ""
+        if row[1] != kind and row[1] != "its own":
+            row.fault("it is answered with %s" % kind)
+        meant = {"closes": None, "stays": 0x95, "closes, then opens for that code": 0x94}
+        if row[2] not in meant or meant[row[2]] != pod.exchange:
+            row.fault("then the second model has the exchange %s open" % pod.exchange)
+        left = VALUES["priority remaining"] - pod.remaining[0x95]
+        if row[3] != ("dropped, and remaining falls by 1" if left else "kept") or left + len(pod.blocks[0x95]) != 2:
+            row.fault("the second model has %d blocks and the remaining lower by %d" % (len(pod.blocks[0x95]), left))
 
 
 def edges(row):

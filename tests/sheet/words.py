@@ -105,7 +105,7 @@ class Words:
         pod = model.Pod()
         pod.packet(self.packets.packet(0x90, VALUES))
         for word in range(65536):
-            pod.words_fresh()
+            pod.transfer, pod.message_error, pod.places = None, False, dict.fromkeys(SIZES, 0)
             pod.command_word(word)
             if pod.message_error == (word in accepted):
                 table.rows[0].fault("%04X is %saccepted" % (word, "not " * pod.message_error))
