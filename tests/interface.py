@@ -21,6 +21,7 @@ import model
 from sheet import pictures
 from sheet.camera import Camera
 from sheet.desk import MOST, Desk, checks
+from sheet.exchanges import Exchanges
 from sheet.packets import Packets
 from sheet.pages import ROOT, Fault, line_of, number, plain, tables
 from sheet.programs import Programs
@@ -106,9 +107,9 @@ def test():
     begin, desk, sheet = time.monotonic(), Desk(), Sheet()
     try:
         packets = Packets(desk, sheet.take)
-        for part in (packets, State(desk, sheet.take, packets), Words(desk, sheet.take, packets),
-                     Camera(desk, sheet.take, packets), Programs(desk, sheet.take, packets)):
-            part.all()
+        packets.all()
+        for part in (Exchanges, State, Words, Camera, Programs):
+            part(desk, sheet.take, packets).all()
         checks(desk, lambda: play(desk, sheet), lambda: covered(desk, sheet))
         for table in sheet.left():
             desk.fault("%s: no check knows a table with the head: %s" % (table.where, " | ".join(table.head)))
