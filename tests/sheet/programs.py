@@ -1,13 +1,16 @@
 """The sheet's part 'Programs', and what the other pages say about the repository, against the programs."""
+import os
 import re
 import subprocess
+import tempfile
+from pathlib import Path
 
 from ports.lines import FORMS, LONGEST
 from ports.packets import sealed
 
 from .desk import checks, run
 from .packets import asked
-from .pages import ROOT, Fault, names, number
+from .pages import ROOT, Fault, crates, names, number
 
 ITEMS = re.compile(r"\$ printf '(.*)' \| \./run session\n((?:    .*\n)+)")
 
@@ -23,7 +26,7 @@ class Programs:
     def all(self):
         """Each table once."""
         checks(self.desk, self.check_letters, self.check_limits, self.check_lab, self.check_ranges, self.check_readme,
-               self.check_links, self.check_run)
+               self.check_links, self.check_run, self.check_progress)
 
     def check_letters(self):
         """The letters of the console."""
@@ -110,3 +113,21 @@ class Programs:
         there = sorted(path.parts[-3] for path in ROOT.glob("crates/*/src/main.rt"))
         if told.returncode != 0 or listed != there:
             self.desk.fault("./run --help lists %s, and the programs are %s" % (" ".join(listed), " ".join(there)))
+
+    def check_progress(self):
+        """While a checker works, ./run tells which crates it is at; where it fails, what it said. A stand-in is the checker."""
+        below, found = crates(), {"console"}
+        while any(one not in found for name in found for one in below[name] if one in below):
+            found |= {one for name in found for one in below[name] if one in below}
+        with tempfile.TemporaryDirectory() as folder:
+            stand_in = Path(folder) / "rt"
+            stand_in.write_text("#!/bin/sh\nsleep 1.5\necho 'rt: nothing proved'\nexit 1\n")
+            stand_in.chmod(0o755)
+            path = "%s:%s" % (folder, os.environ["PATH"])
+            for asked_for in ("1", "0"):
+                told = subprocess.run(["./run", "console"], cwd=ROOT, stdin=subprocess.DEVNULL, capture_output=True, check=False,
+                                      env={**os.environ, "PATH": path, "RUN_PROGRESS": asked_for})
+                said = told.stderr.decode()
+                tells = re.match(r"proving 1 of %d: \w+\n" % len(found), said) is not None
+                if tells != (asked_for == "1") or told.returncode != 1 or "rt: nothing proved" not in said or told.stdout:
+                    self.desk.fault("./run with RUN_PROGRESS=%s says, with status %d: %s" % (asked_for, told.returncode, said))
