@@ -14,6 +14,11 @@ from .pages import ROOT, Fault, crates, names, number
 
 ITEMS = re.compile(r"\$ printf '(.*)' \| \./run session\n((?:    .*\n)+)")
 
+# the parts of the state that lab sets to one number
+NAMES = "initialised mode flags seconds milliseconds poll error timeouts gathered".split()
+NAMES += [part + store for store in "01" for part in ("limit", "remaining", "oldest", "waiting")]
+NAMES += [part + str(id) for part in ("param", "written") for id in range(1, 13)] + ["place5", "place6", "place7", "address"]
+
 
 class Programs:
     """The tables of lines and limits."""
@@ -74,7 +79,10 @@ class Programs:
 
     def check_ranges(self):
         """The numbers that X takes, one inside and one outside."""
-        for row in self.take("Name for X", "Least", "Most", "Sets"):
+        table = self.take("Name for X", "Least", "Most", "Sets")
+        if [name for row in table for name in names(row[0])] != NAMES:
+            table.rows[0].fault("the names are not: %s" % " ".join(NAMES))
+        for row in table:
             least, most = number(row[1]), number(row[2])
             for name in names(row[0]):
                 self.desk.lab(row.where, [("X %s %d" % (name, value), told) for value, told in (
@@ -128,6 +136,6 @@ class Programs:
                 told = subprocess.run(["./run", "console"], cwd=ROOT, stdin=subprocess.DEVNULL, capture_output=True, check=False,
                                       env={**os.environ, "PATH": path, "RUN_PROGRESS": asked_for})
                 said = told.stderr.decode()
-                tells = re.match(r"proving 1 of %d: \w+\n" % len(found), said) is not None
+                tells = re.search(r"^proving 1 of %d: \w+$" % len(found), said, re.M) is not None
                 if tells != (asked_for == "1") or told.returncode != 1 or "rt: nothing proved" not in said or told.stdout:
                     self.desk.fault("./run with RUN_PROGRESS=%s says, with status %d: %s" % (asked_for, told.returncode, said))

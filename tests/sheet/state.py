@@ -18,12 +18,24 @@ GOOD = {"D": "D", "B": "B p" + BLOCK, "C": "C 8000", "W": "W 0005", "R": "R", "S
 # thing: (its name in lab, a size that is wrong, the refusal)
 LENT = {"room": ("room", 259, "1"), "priority store": ("p", 4095, "2"), "ordinary store": ("o", 32769, "2"),
         "table 5": ("5", 63, "2"), "table 6": ("6", 129, "2"), "table 7": ("7", 65, "2")}
+# what the functions call the things that they are lent
+THINGS = {"room": "room", "priority": "stores", "ordinary": "stores", "five": "tables", "six": "tables", "seven": "tables",
+          "store": "that store", "block": "a block", "load": "the words of a load", "set": "a sample set"}
 OTHER = {**VALUES, "mode": 3, "flags": 9, "time": (5, 6), "priority limit": 7, "priority remaining": 6,
          "memory limit": 8, "memory remaining": 5, "poll": 11}
 PARTS = {"limits": "limit", "remainings": "remaining", "open exchange": "exchange", "waiting blocks": "blocks",
          "parameters": "values", "marks of written parameters": "written", "table words": "tables", "read places": "places",
          "given address": "address", "open transfer": "transfer", "message error": "message_error",
          "gathered bytes": "gathered", "input timeouts": "timeouts"}
+
+
+def borrowed(function):
+    """What a function of the pod is lent, by its own head in the code: each thing that it takes by reference."""
+    head = re.compile(r"^pub fn %s(?:<[^>]*>)?\(([^)]*)\)" % function, re.M)
+    found = [match[1] for path in sorted(ROOT.glob("crates/*/src/*.rt")) for match in head.finditer(path.read_text())
+             if "pod: Pod" in match[1]]
+    taken = [name for head in found[:1] for name in re.findall(r"(\w+): &", head)]
+    return ", ".join(dict.fromkeys(THINGS[name] for name in taken if name != "bytes")) or "nothing"
 
 
 class State:
@@ -42,13 +54,17 @@ class State:
                self.check_bounds, self.check_parts, self.check_edges)
 
     def check_calls(self):
-        """Every function of the pod and every letter of the console has its row."""
+        """Every function of the pod and every letter of the console has its row, and what it is lent."""
         source = (ROOT / "crates/pod/src/lib.rt").read_text()
         public = re.findall(r"^pub (?:use \w+::|fn )(\w+)", source, re.M)
-        for at, names, whose in ((1, public, "the pod"), (2, list(FORMS), "the second model")):
-            if sorted(self.calls.column(at)) != sorted(names):
-                odd = set(names) ^ set(self.calls.column(at))
+        for at, listed, whose in ((1, public, "the pod"), (2, list(FORMS), "the second model")):
+            if sorted(self.calls.column(at)) != sorted(listed):
+                odd = set(listed) ^ set(self.calls.column(at))
                 self.calls.rows[0].fault("the calls are not those of %s: %s" % (whose, ", ".join(sorted(odd))))
+        for row in self.calls:
+            lent = borrowed(row[1].strip("`"))
+            if row[3] != lent:
+                row.fault("the function is lent %s" % lent)
 
     def check_sizes(self):
         """What is lent, against the second model's own numbers."""
