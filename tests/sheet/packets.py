@@ -108,6 +108,9 @@ class Packets:
             self.commands.rows[0].fault("codes and bytes are not those of the second model")
         for row in self.commands:
             code, kind, answer = number(row[0]), number(row[2]), number(row[4])
+            name = {0x96: "ordinary_"}.get(code, "") + row[1].lower().replace(" ", "_")
+            if not COMMANDS[code][1].startswith(name):
+                row.fault("the second model calls it %s" % COMMANDS[code][1])
             pod = self.ready()
             told = pod.packet(self.sample(code))
             if len(told) != answer or told[1:2] != self.data:

@@ -77,8 +77,9 @@ class State:
             table.rows[0].fault("what is lent is not: %s" % ", ".join(sizes))
         starts = {"starts with every word 0": lambda at: 0, "starts with word i at 256 times i": lambda at: 256 * at}
         for row in table:
-            if number(row[1]) != sizes[row[0]]:
-                row.fault("its size is %d" % sizes[row[0]])
+            unit = "words" if row[0].startswith(("table", "words")) else "numbers" if row[0] == "sample set" else "bytes"
+            if (number(row[1]), row[2]) != (sizes[row[0]], unit):
+                row.fault("its size is %d %s" % (sizes[row[0]], unit))
             if row[0].startswith("table"):
                 words = tables_at_start()[int(row[0][-1])]
                 if words != [starts[row[3]](at) for at in range(len(words))]:
@@ -176,6 +177,9 @@ class State:
             name, least, most = row[3].strip("`"), number(row[1]), number(row[2])
             if (least, most) != bounds[name]:
                 row.fault("its bounds are %d and %d" % bounds[name])
+            words = {"0": ["priority"], "1": ["ordinary", "memory"], **{str(table): ["table %d" % table] for table in SIZES}}
+            if name.rstrip("01567") not in row[0] or not any(word in row[0] for word in words.get(name[-1], [""])):
+                row.fault("the name in lab is that of another part")
             for value, told in ((least, "D"), (most, "D"), (least - 1, "D !3"), (most + 1, "D !3")):
                 if ranges[name][0] <= value <= ranges[name][1] and name + str(value) != "address-1":
                     sets = ["remaining0 0", "remaining1 0", "%s %d" % (name, value)]
