@@ -1,7 +1,9 @@
 """The sheet's part 'Packets': packets, answers, checks and errors against the programs and the second model."""
 import model
 import sessions
+from ports.blocks import CAPACITY
 from ports.packets import COMMANDS, crc, sealed
+from ports.params import ROWS
 
 from .desk import checks
 from .pages import number, numbers, plain
@@ -88,8 +90,8 @@ class Packets:
 
     def all(self):
         """Each table once."""
-        checks(self.desk, self.check_crc, self.check_commands, self.check_lengths, self.check_taken, self.check_bounds,
-               self.check_status, self.check_order, self.check_errors)
+        checks(self.desk, self.check_crc, self.check_commands, self.check_lengths, self.check_answers, self.check_taken,
+               self.check_bounds, self.check_status, self.check_order, self.check_errors)
 
     def check_crc(self):
         """Bytes and their CRC."""
@@ -138,6 +140,17 @@ class Packets:
                 end = number(fields[-1][2]) + number(fields[-1][3]) if fields else 2
                 if end + 2 != length and not (of.startswith("answer") and number(row[2]) == 1):
                     row.fault("%s has %d bytes by the table of fields" % (of, end + 2))
+
+    def check_answers(self):
+        """The bounds of what an answer carries: those of the packets, of the stores and of the parameters."""
+        same = {row[1]: row.cells[4:] for row in self.layout("0x90")}
+        meant = {"mode": same["mode"], "flags": same["flags"], "request": ("0", "0"), "missing ids": ("0", str(max(ROWS))),
+                 "priority blocks waiting": ("0", str(CAPACITY[0x95])), "ordinary blocks waiting": ("0", str(CAPACITY[0x96])),
+                 "id": (str(min(ROWS)), str(max(ROWS))), "value, signed": ("its row", "its row"), "block": ("any", "any")}
+        for row in self.fields:
+            if row[0].startswith("answer") or row[1] in ("id", "value, signed"):
+                if row.cells[4:] != meant[row[1]]:
+                    row.fault("its bounds are %s and %s" % meant[row[1]])
 
     def check_taken(self):
         """Each field is where the second model takes it from."""
@@ -228,7 +241,7 @@ def edges(row):
     if name == "time":
         (low, high), (most, top) = numbers(row[4]), numbers(row[5])
         yield from (({"time": value}, True) for value in ((low, high), (most, top)))
-        yield {"time": (low, top + 1)}, False
+        yield from (({"time": value}, False) for value in ((low, high - 1), (low - 1, high), (low, top + 1)) if min(value) >= 0)
         return
     least = number(row[4])
     most = VALUES[LIMITS[name]] if name in LIMITS else number(row[5])

@@ -1,4 +1,6 @@
 """The sheet's parts 'Parameters' and 'Table words' against the programs and the second model."""
+import re
+
 import model
 from ports.params import ROWS
 from ports.words import SIZES, tables_at_start
@@ -81,8 +83,10 @@ class Words:
     def check_bits(self):
         """Where direction, command and N stand: the words of the table of commands are put together by them."""
         table = self.take("Bits", "Hold")
-        self.bits = {plain(row[1]).split(":")[0].split(" ")[0]: list(numbers(row[0].replace("13 to 9", "9 to 13").replace("8 to 0", "0 to 8")))
-                     for row in table}
+        self.bits = {}
+        for row in table:
+            high, _, low = row[0].partition(" to ")
+            self.bits[re.match(r"\w+", row[1])[0]] = list(range(int(low or high), int(high) + 1))
         if sorted(bit for bits in self.bits.values() for bit in bits) != list(range(16)):
             table.rows[0].fault("the bits of a word are not each there once")
 
