@@ -1,4 +1,6 @@
 """The sheet's part 'Packets': packets, answers, checks and errors against the programs and the second model."""
+import re
+
 import model
 import sessions
 from ports.blocks import CAPACITY
@@ -206,7 +208,10 @@ class Packets:
             "9, then": [(-1, self.packet(0x95)), (-1, self.packet(0x96))]}
         if table.column(0) != list(probes):
             table.rows[0].fault("the checks are not %s" % ", ".join(probes))
+        named = {"2": ["4"], "5": ["0x01"], "7": ["0x90"], "9, then": ["0"]}
         for row in table:
+            if re.findall(r"0x\w+|\d+", row[1]) != named.get(row[0], []):
+                row.fault("the numbers in its text are not %s" % " ".join(named.get(row[0], ["none"])))
             for state, packet in probes[row[0]]:
                 told = "P -" if row[2].startswith("none") else self.error(packet[0], number(row[2]))
                 self.desk.case(row.where, self.opening(state) + [(asked(packet), told)])
