@@ -84,6 +84,9 @@ def line_of(row, at):
     lines = path.read_text().split("\n")
     if not 0 < number < len(lines):
         row.fault("%s has no line %d" % (named[1], number))
+    begins = re.search(r"\(`([^`]*)`", row[at])
+    if not begins or not lines[number - 1].startswith(begins[1] + " "):
+        row.fault("line %d of %s does not begin so" % (number, named[1]))
     return lines[number - 1]
 
 
