@@ -19,6 +19,11 @@ def places(row):
     return byte, high, int(match[3]) if match[3] else high
 
 
+def letter_of(row):
+    """The letter of what comes."""
+    return "I" if row[0] == "a byte" else "T"
+
+
 class Camera:
     """The tables of the camera's side."""
 
@@ -89,7 +94,12 @@ class Camera:
         spans = [(row[0], n) for row in table for n in numbers(row[1])]
         if sorted(spans) != sorted((what, n) for what in ("a byte", "a timeout") for n in range(8)):
             table.rows[0].fault("not every count of gathered bytes stands there once for a byte and for a timeout")
+        said = {2: ("nothing", "all eight, in order", "those gathered, in order"), 3: ("0", "one more"),
+                4: ("kept", "one more, and 15 stays 15")}
         for row in table:
+            for at, texts in said.items():
+                if row[at] not in texts:
+                    row.fault("%s is one of: %s" % (table.head[at], "; ".join(texts)))
             for n in numbers(row[1]):
                 for before in (0, 1, 14, 15, 16):
                     self.desk.case(row.where, self.piped(row, n, before))
@@ -97,10 +107,10 @@ class Camera:
     def piped(self, row, n, before):
         """n bytes gathered behind some timeouts, then what comes; the frame shows what is left."""
         here = bytes(BYTES[:n + 1]) if row[0] == "a byte" else bytes(BYTES[:n])
-        sends = row[2] != "nothing"
+        sends = {"nothing": False, "all eight, in order": len(here) == 8}.get(row[2], letter_of(row) == "T")
         after = 0 if row[3] == "0" else n + 1
         count = min(15, min(15, before) + (1 if row[4].startswith("one more") else 0))
-        letter = "I" if row[0] == "a byte" else "T"
+        letter = letter_of(row)
         line = "I %02X" % BYTES[n] if letter == "I" else "T"
         pairs = [self.packets.begin()] + [("I 55", "I -"), ("T", "T 55")] * before
         pairs += [("I %02X" % byte, "I -") for byte in BYTES[:n]]

@@ -5,12 +5,14 @@ import subprocess
 import tempfile
 from pathlib import Path
 
+import model
 from ports.lines import FORMS, LONGEST
 from ports.packets import sealed
 
 from .desk import checks, run
 from .packets import asked
-from .pages import ROOT, Fault, crates, names, number
+from .pages import ROOT, Fault, crates, names, number, plain
+from .state import GOOD
 
 ITEMS = re.compile(r"\$ printf '(.*)' \| \./run session\n((?:    .*\n)+)")
 
@@ -38,6 +40,16 @@ class Programs:
         table = self.take("Letter", "Line", "Call", "Prints")
         if table.column(0) != list(FORMS):
             table.rows[0].fault("the letters are not %s" % " ".join(FORMS))
+        for row in table:
+            letter, pod = plain(row[0]), model.Pod()
+            pod.packet(self.packets.sample(0x90))
+            told = model.console_line(pod, GOOD.get(letter, "P").encode()).decode()
+            kind = "" if told == letter else " and the word" if re.fullmatch(r". [0-9A-F]{4}", told) else " and the "
+            if not plain(row[1]).startswith(letter) or row[3][:len(row[0] + kind)] != row[0] + kind or (
+                    kind != " and the " and row[3] != row[0] + kind):
+                row.fault("it begins with its letter, and prints as `%s` does" % told)
+            if re.findall(r"\d+", row[1]) != {"B": ["256", "256"], "A": ["128"]}.get(letter, []):
+                row.fault("the numbers of its line are others")
 
     def check_limits(self):
         """The longest packet and the longest line, one inside and one outside."""
@@ -65,8 +77,8 @@ class Programs:
     def check_lab(self):
         """The lines of lab, and the sizes that it lends."""
         table = self.take("Letter of lab", "Line", "Does", "Prints")
-        if table.column(0) != ["X", "L", "V"]:
-            table.rows[0].fault("the letters of lab are not X L V")
+        if table.column(0) != ["X", "L", "V"] or any(not row[at].startswith(row[0]) for row in table for at in (1, 3)):
+            table.rows[0].fault("the letters of lab are not X L V, each before its line and what it prints")
         sizes = {"room": 260, "p": 4096, "o": 32768, "5": 64, "6": 128, "7": 64}
         lent = self.take("Name for L", "Right size", "Largest")
         if lent.column(0) != list(sizes):

@@ -44,6 +44,8 @@ class Words:
         if list(listed) != list(ROWS):
             table.rows[0].fault("the ids are not %s" % " ".join(map(str, ROWS)))
         for id, (least, most, start, is_asked, row) in listed.items():
+            if row[5] not in ("yes", "no"):
+                row.fault("asked is yes or no")
             if (least, most, start, is_asked) != ROWS[id]:
                 row.fault("the second model has %s" % (ROWS[id],))
             self.case_parameter(row, id, least, most, start)
@@ -198,7 +200,12 @@ class Words:
         self.desk.case(row.where, pairs)
         self.desk.case(row.where, self.answered(before[:1] + stir + before[1:] + event + [("S", "S " + told[1])]))
         pod = model.Pod()
-        for line, _ in before + clear + event:
+        for line, _ in before + clear:
             model.console_line(pod, line.encode())
-        if row[2] in ("closes", "none") and pod.transfer or row[2] not in ("closes", "none") and not pod.transfer:
-            row.fault("then the second model has %s transfer open" % ("a" if pod.transfer else "no"))
+        was = pod.transfer
+        for line, _ in event:
+            model.console_line(pod, line.encode())
+        then = {(False, False): "none", (True, False): "closes", (False, True): "its own opens"}.get(
+            (was is not None, pod.transfer is not None), "stays" if pod.transfer is was else "closes, then its own opens")
+        if row[2] != then and (then, row[2]) != ("none", "closes"):
+            row.fault("open transfer: in the second model it is '%s'" % then)
