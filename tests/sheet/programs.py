@@ -58,6 +58,8 @@ class Programs:
         if list(limits) != ["bytes of a packet line", "characters of a line"]:
             table.rows[0].fault("the limits are not of the bytes of a packet line and of the characters of a line")
         most, row = limits["bytes of a packet line"]
+        if "packet of {:,} bytes".format(most + 1) not in row[2]:
+            row.fault("beyond it is a packet of {:,} bytes".format(most + 1))
         whole = sealed(b"\x97\x01" + bytes(most - 4))
         self.desk.case(row.where, [(asked(whole), self.packets.error(0x97, 0x02)), (asked(whole + b"\0"), "?"), ("S", "S 0000")])
         longest, row = limits["characters of a line"]

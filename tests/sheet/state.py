@@ -111,7 +111,10 @@ class State:
     def check_refused(self):
         """Each call with each one and each two of the conditions: refused by the first of its row, else answered."""
         for row in self.calls:
-            holds = self.held(row)
+            holds, listed = self.held(row), row[4].split()
+            lent = [one for one in holds if one in "123"]
+            if [one for one in listed if one in "123"] != lent or set(listed) - set(holds):
+                row.fault("of what it is lent, the refusals are %s" % " ".join(lent))
             for some in itertools.chain(itertools.combinations(holds, 1), itertools.combinations(holds, 2)):
                 first = next((one for one in row[4].split() if one in some), None)
                 self.case_refused(row, some, first)
@@ -130,6 +133,8 @@ class State:
         if "6" in some and pairs:
             pairs.append((asked(self.packets.packet(0x9F)), self.packets.success(0x9F)))
         told = "%s !%s" % (letter, first) if first else self.answer(pairs, line)
+        if not first and "!" in told:
+            row.fault("the second model says %s to %s" % (told, line[:40]))
         if not set(some) & {"1", "2", "3"}:
             self.desk.case(row.where, pairs + [(line, told)])
             return
