@@ -14,6 +14,7 @@ class Desk:
 
     def __init__(self):
         self.faults = []
+        self.blamed = set()
         self.cases = {"console": [], "lab": []}
         self.alone = []
         self.has_lab = "lab" in crates()
@@ -23,15 +24,22 @@ class Desk:
         """One more difference."""
         self.faults.append(text)
 
-    def case(self, where, pairs):
-        """A session of the console from power on: lines, and what the page says they print."""
+    def agreed(self, where, pairs, tells):
+        """Whether the second model says what the page says; of one place the first difference is told."""
         pod = model.Pod()
         for line, prints in pairs:
-            told = model.console_line(pod, line.encode()).decode()
+            told = tells(pod, line.encode()).decode()
             if told != prints:
-                self.fault("%s: `%s` prints `%s`, and the second model says `%s`" % (where, cut(line), cut(prints), cut(told)))
-                return
-        self.cases["console"].append((where, [("Z", "Z")] + list(pairs)))
+                if where not in self.blamed:
+                    self.fault("%s: `%s` prints `%s`, and the second model says `%s`" % (where, cut(line), cut(prints), cut(told)))
+                self.blamed.add(where)
+                return False
+        return True
+
+    def case(self, where, pairs):
+        """A session of the console from power on: lines, and what the page says they print."""
+        if self.agreed(where, pairs, model.console_line):
+            self.cases["console"].append((where, [("Z", "Z")] + list(pairs)))
 
     def lab(self, where, pairs, alone=False):
         """A session of lab from power on, left out as long as there is no such program. One that shows the bytes of the
@@ -45,13 +53,8 @@ class Desk:
 
     def session(self, where, pairs):
         """A session of the packet program, in a run of its own."""
-        pod = model.Pod()
-        for line, prints in pairs:
-            told = model.session_line(pod, line.encode()).decode()
-            if told != prints:
-                self.fault("%s: `%s` prints `%s`, and the second model says `%s`" % (where, cut(line), cut(prints), cut(told)))
-                return
-        self.alone.append(("session", where, pairs))
+        if self.agreed(where, pairs, model.session_line):
+            self.alone.append(("session", where, pairs))
 
     def finish(self):
         """Hold all against the programs."""
@@ -62,16 +65,15 @@ class Desk:
             self.compare(program, [(where, *pair) for pair in pairs])
 
     def compare(self, program, wanted):
-        """One run of a program. After a difference the rest of that case says nothing."""
+        """One run of a program; of one place the first difference is told."""
         text = "".join(line + "\n" for _, line, _ in wanted)
         got = run(program, text.encode()).stdout.decode("latin-1").split("\n")
         self.lines += len(wanted)
-        bad = None
         if len(got) != len(wanted) + 1:
             self.fault("%s printed %d lines for %d" % (program, len(got) - 1, len(wanted)))
         for (where, line, prints), came in zip(wanted, got):
-            if came != prints and where != bad:
-                bad = where
+            if came != prints and where not in self.blamed:
+                self.blamed.add(where)
                 self.fault("%s: `%s` prints `%s`, and %s prints `%s`" % (where, cut(line), cut(prints), program, cut(came)))
 
 
