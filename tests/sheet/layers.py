@@ -118,7 +118,7 @@ def layers():
     middle = {node: high - 50 - at * RISE for at, row in enumerate(graph.rows) for node in row}
     for path in graph.lines:
         ends = [(graph.place[path[0]], middle[path[0]] + TALL / 2)]
-        ends += [(graph.place[node], middle[node]) for node in path[1:-1]]
+        ends += [(graph.place[node], middle[node] + side * (TALL / 2 + 4)) for node in path[1:-1] for side in (-1, 1)]
         picture.curve(ends + [(graph.place[path[-1]], middle[path[-1]] - TALL / 2)])
     for name in listed:
         program = (ROOT / "crates" / name / "src/main.rt").is_file()
