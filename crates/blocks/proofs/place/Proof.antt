@@ -14,7 +14,7 @@ returns c =
 returns-2 : tie.Need-returns-2
 returns-2 c =
     let a = c .before .args in
-    omega (arith, place-round (a .capacity) (a .from) (a .k) (omega arith))
+    omega (arith, place-round (a .capacity) (a .from) (a .k) (omega arith) (omega arith))
 
 pub place-spec : {M : Type 1} → statement M
 place-spec = tie.close (tie.spec (λ c. search needs) (λ c. search needs) returns returns-2)
