@@ -1,0 +1,126 @@
+-- What is read of a text is heard again from the memory in which its bytes and words lie.
+-- Assumes nothing.
+use Prim.Native.Nat.{ℕ, _+_, _*_, _≤_}
+use native.Mathlib.Omega.{arith}
+use mathlib.Core.Path.{_≡_, refl, ap}
+use mathlib.Core.Bool.{_||_}
+use mathlib.Core.List.{List, [], _∷_, _++_}
+use lib.Dec.{ltb, eqb}
+use lib.ListN.{length, take, drop, getD, length-drop}
+use lib.Seq.{sets, sets-eq, take-at}
+use Rattle.rows.proofs.Bool.{split, by-test}
+use Rattle.blocks.specs.declared.Store.{Store}
+use Rattle.blocks.specs.declared.Store.the-variants.{Priority, Ordinary}
+use Rattle.items.specs.Text.{Reading, bytesIn, wordsIn, byteItem, wordItem}
+use Rattle.lines.specs.Letters.{letterP, letterD, letterB, letterC, letterW, letterR, letterS, letterA, letterI, letterT, letterZ, smallP, smallO}
+use Rattle.lines.specs.Asked.{Asked, Asking, packet, put, samples, other, packing, putting, sampling, isPut, oneByte, packetIn, putIn, samplesIn, bareAsked, wordAsked, byteAsked, shortAsked, lineOf, sayLine}
+use Rattle.line_calls.specs.Calls.{heardLine}
+
+-- what was stored from the start is what the first ones are
+stored : (vs l : List ℕ) → length vs ≤ length l → take (length vs) (sets l 0 vs) ≡ vs
+stored vs l h = rw (sets-eq vs l 0 (omega arith)) (take-at vs (drop (0 + length vs) l) (length vs) refl)
+
+-- a text of items is at least so long
+bytes-most : (t : List ℕ) → 3 * length (bytesIn t .values) ≤ length t
+unfolding bytesIn
+bytes-most [] = omega arith
+bytes-most (s ∷ []) = omega arith
+bytes-most (s ∷ h ∷ []) = omega arith
+bytes-most (s ∷ h ∷ l ∷ rest) = split (ltb (byteItem s h l) 256) (λ e. rw e (omega (arith, bytes-most rest))) (λ e. rw e (omega arith))
+
+words-most : (t : List ℕ) → 5 * length (wordsIn t .values) ≤ length t
+unfolding wordsIn
+words-most [] = omega arith
+words-most (s ∷ []) = omega arith
+words-most (s ∷ a ∷ []) = omega arith
+words-most (s ∷ a ∷ b ∷ []) = omega arith
+words-most (s ∷ a ∷ b ∷ c ∷ []) = omega arith
+words-most (s ∷ a ∷ b ∷ c ∷ d ∷ rest) = split (ltb (wordItem s a b c d) 65536) (λ e. rw e (omega (arith, words-most rest))) (λ e. rw e (omega arith))
+
+-- a run of bytes, whole or not
+packing-heard : (r : Reading) (bs ws : List ℕ) → length (r .values) ≤ length bs
+    → heardLine (sayLine (packing r .asked)) (sets bs 0 (r .values)) ws ≡ packing r .asked
+unfolding heardLine sayLine
+packing-heard r bs ws h =
+    by-test (λ (a : Asked). heardLine (sayLine a) (sets bs 0 (r .values)) ws ≡ a) (r .whole) (λ _. ap packet (stored (r .values) bs h)) (λ _. refl)
+
+putting-heard : (s : Store) (r : Reading) (bs ws : List ℕ) → length (r .values) ≤ length bs
+    → heardLine (sayLine (putting s r .asked)) (sets bs 0 (r .values)) ws ≡ putting s r .asked
+unfolding heardLine sayLine
+putting-heard s r bs ws h =
+    by-test (λ (a : Asked). heardLine (sayLine a) (sets bs 0 (r .values)) ws ≡ a) (r .whole) (λ _. ap (put s) (stored (r .values) bs h)) (λ _. refl)
+
+sampling-heard : (k : ℕ) (r : Reading) (bs ws : List ℕ) → length (r .values) ≤ length ws
+    → heardLine (sayLine (sampling k r .asked)) bs (sets ws 0 (r .values)) ≡ sampling k r .asked
+unfolding heardLine sayLine
+sampling-heard k r bs ws h =
+    by-test (λ (a : Asked). heardLine (sayLine a) bs (sets ws 0 (r .values)) ≡ a) (r .whole) (λ _. ap (samples k) (stored (r .values) ws h)) (λ _. refl)
+
+-- the lines that lie in no memory
+module _ (bs ws : List ℕ) where
+  abbrev Again : Asked → Type 0
+  Again a = heardLine (sayLine a) bs ws ≡ a
+
+  word-heard : (c w : ℕ) → Again (wordAsked c w)
+  unfolding heardLine sayLine wordAsked
+  word-heard c w = by-test Again (ltb w 65536) (λ _. by-test Again (eqb c letterC) (λ _. refl) (λ _. refl)) (λ _. refl)
+
+  byte-heard : (b : ℕ) → Again (byteAsked b)
+  unfolding heardLine sayLine byteAsked
+  byte-heard b = by-test Again (ltb b 256) (λ _. refl) (λ _. refl)
+
+  bare-heard : (c : ℕ) → Again (bareAsked c)
+  unfolding heardLine sayLine bareAsked
+  bare-heard c =
+      by-test Again (eqb c letterD) (λ _. refl)
+      (λ _. by-test Again (eqb c letterR) (λ _. refl)
+      (λ _. by-test Again (eqb c letterS) (λ _. refl)
+      (λ _. by-test Again (eqb c letterT) (λ _. refl)
+      (λ _. by-test Again (eqb c letterZ) (λ _. refl) (λ _. refl)))))
+
+  other-heard : Again other
+  unfolding heardLine sayLine
+  other-heard = refl
+
+  short-heard : (c : ℕ) (t : List ℕ) → Again (shortAsked c t)
+  unfolding shortAsked
+  short-heard c t =
+      by-test Again (eqb c letterC || eqb c letterW) (λ _. word-heard c _)
+      (λ _. by-test Again (eqb c letterI) (λ _. byte-heard _)
+      (λ _. by-test Again (eqb (length t) 0) (λ _. bare-heard c) (λ _. other-heard)))
+
+-- a text of so many characters, over memory that is long enough
+module _ (t bs : List ℕ) (hb : length t ≤ 3 * length bs) where
+  fits-bytes : (k : ℕ) → length (bytesIn (drop k t) .values) ≤ length bs
+  fits-bytes k = omega (arith, bytes-most (drop k t), length-drop k t)
+
+  -- a packet's line: no word of it is read
+  pub packet-heard : (ws : List ℕ) → heardLine (sayLine (packetIn t .asked)) (sets bs 0 (packetIn t .bytes)) ws ≡ packetIn t .asked
+  unfolding packetIn
+  packet-heard ws =
+      by-test (λ (k : Asking). heardLine (sayLine (k .asked)) (sets bs 0 (k .bytes)) ws ≡ k .asked) (eqb (getD t 0 0) letterP)
+      (λ _. packing-heard (bytesIn (drop 1 t)) bs ws (fits-bytes 1)) (λ _. other-heard bs ws)
+
+  module _ (ws : List ℕ) (hw : length t ≤ 5 * length ws) where
+    abbrev Heard : Asking → Type 0
+    Heard k = heardLine (sayLine (k .asked)) (sets bs 0 (k .bytes)) (sets ws 0 (k .words)) ≡ k .asked
+
+    put-heard : Heard (putIn t)
+    unfolding putIn
+    put-heard =
+        by-test Heard (isPut smallP t) (λ _. putting-heard Priority (bytesIn (drop 3 t)) bs ws (fits-bytes 3))
+        (λ _. by-test Heard (isPut smallO t) (λ _. putting-heard Ordinary (bytesIn (drop 3 t)) bs ws (fits-bytes 3)) (λ _. other-heard bs ws))
+
+    samples-heard : Heard (samplesIn t)
+    unfolding samplesIn
+    samples-heard =
+        by-test Heard (ltb (oneByte (take 3 (drop 1 t))) 256)
+        (λ _. sampling-heard (oneByte (take 3 (drop 1 t))) (wordsIn (drop 4 t)) bs ws (omega (arith, words-most (drop 4 t), length-drop 4 t)))
+        (λ _. other-heard bs ws)
+
+    pub line-heard : Heard (lineOf t)
+    unfolding lineOf
+    line-heard =
+        by-test Heard (eqb (getD t 0 0) letterP) (λ _. packet-heard (sets ws 0 (packetIn t .words)))
+        (λ _. by-test Heard (eqb (getD t 0 0) letterB) (λ _. put-heard)
+        (λ _. by-test Heard (eqb (getD t 0 0) letterA) (λ _. samples-heard) (λ _. short-heard bs ws (getD t 0 0) (drop 1 t))))

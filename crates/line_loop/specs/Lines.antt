@@ -1,0 +1,35 @@
+-- What a line is to a program.
+-- Assumes nothing.
+use Prim.Native.Nat.{ℕ, _-_}
+use mathlib.Core.List.{List, []}
+use mathlib.Core.Option.{Option, none, some}
+use lib.ListN.{take, drop}
+use Rattle.rules.specs.World.{Call}
+use Rattle.lines.specs.declared.Found.{Found}
+use Rattle.lines.specs.declared.Found.the-variants.{Here, Held, Long, More}
+use Rattle.lines.specs.Asked.{Asked, Asking, packetIn, lineOf}
+use Rattle.line_calls.specs.declared.Sizes.{Sizes}
+use Rattle.line_calls.specs.Calls.{callOf}
+use Rattle.line_calls.specs.Memory.{rightSizes}
+use Rattle.line_loop.specs.declared.Program.{Program}
+use Rattle.line_loop.specs.declared.Program.the-variants.{Session, Console}
+
+-- the text of a line that was found: a part of the piece, or what is held. A line that is too long is read as an empty one
+unfoldable pub textOf : Found → List ℕ → List ℕ → List ℕ
+textOf (Here from end) piece line = take (end - from) (drop from piece)
+textOf (Held n) piece line = take n line
+textOf Long piece line = []
+textOf More piece line = []
+
+-- what a text asks: of session a packet or nothing, of the console what its table says
+unfoldable pub askingOf : Program → List ℕ → Asking
+askingOf Session t = packetIn t
+askingOf Console t = lineOf t
+
+-- other sizes are for one call: after it everything is lent at its right size again
+abbrev pub sizesIf : Option Call → Sizes → Sizes
+sizesIf none s = s
+sizesIf (some c) s = rightSizes
+
+unfoldable pub sizesAfter : Asked → Sizes → Sizes
+sizesAfter a s = sizesIf (callOf a []) s
