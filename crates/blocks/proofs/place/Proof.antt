@@ -15,4 +15,4 @@ place-spec =
     sym (place-on (a .capacity) (a .from) (a .k) (omega arith)))
     (λ c.
     let a = c .before .args in
-    omega (arith, place-round (a .capacity) (a .from) (a .k) (omega arith))))
+    omega (arith, place-round (a .capacity) (a .from) (a .k) (omega arith) (omega arith))))
