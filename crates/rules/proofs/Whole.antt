@@ -8,9 +8,10 @@ use Rattle.rules.proofs.LoadWhole.{load-whole}
 use Rattle.rules.proofs.LoadCut.{load-cut}
 use Rattle.rules.proofs.ReadWhole.{read-whole, read-ends, read-moves}
 use Rattle.rules.proofs.NoOther.{tables-only}
-use Rattle.rules.proofs.MessageError.{message-error, error-is-history, status-word-shows}
+use Rattle.rules.proofs.MessageError.{message-error, status-word-shows}
 use Rattle.rules.proofs.PortOnly.{port-only, places-only}
 use Rattle.rules.proofs.TransferOnly.{transfer-only, reads-zero}
+use Rattle.rules.proofs.PortHistory.{port-is-history}
 use Rattle.rules.proofs.Checked.{packet-answered, opens-exactly, damage, damage-answered, error-unchanged}
 use Rattle.rules.proofs.Judged.{checks-exactly}
 use Rattle.rules.proofs.Blocks.{blocks-are-history}
@@ -20,8 +21,6 @@ use Rattle.rules.proofs.Frames.{frames-are-history}
 use Rattle.rules.proofs.Kept.{awake-is-history, fields-are-history, exchange-is-history, params-are-history, marks-are-history, drop-guarded, fresh-is}
 use Rattle.rules.proofs.NoTrace.{no-trace, as-from-power, no-trace-past}
 use Rattle.rules.proofs.Asleep.{answer-alike, asleep-from-power, asleep-from-shutdown}
-use Rattle.rules.proofs.Edges.{all-edges}
-use Rattle.rules.proofs.Shown.{all-shown, all-computed, conversed}
 
 pub whole : Whole
 whole =
@@ -38,11 +37,11 @@ whole =
       read-moves = read-moves;
       tables-only = tables-only;
       message-error = message-error;
-      error-is-history = error-is-history;
       status-word-shows = status-word-shows;
       port-only = port-only;
       places-only = places-only;
       transfer-only = transfer-only;
+      port-is-history = port-is-history;
       reads-zero = reads-zero;
       packet-answered = packet-answered;
       checks-exactly = checks-exactly;
@@ -69,8 +68,4 @@ whole =
       answer-alike = answer-alike;
       asleep-from-power = asleep-from-power;
       asleep-from-shutdown = asleep-from-shutdown;
-      shown = all-shown;
-      edges = all-edges;
-      computed = all-computed;
-      conversation = conversed;
     }

@@ -14,7 +14,4 @@ pub mod Port
 pub mod Pairs
 pub mod Demands
 pub mod Kept
-pub mod Shown
-pub mod Edges
-pub mod Computed
 pub mod Whole

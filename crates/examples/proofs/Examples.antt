@@ -1,0 +1,8 @@
+-- All examples are as expected.
+-- Assumes nothing.
+use Rattle.examples.specs.Examples.{Examples}
+use Rattle.examples.proofs.Edges.{all-edges}
+use Rattle.examples.proofs.Shown.{all-shown, all-computed, conversed}
+
+pub examples : Examples
+examples = record { shown = all-shown; edges = all-edges; computed = all-computed; conversation = conversed }

@@ -1,0 +1,4 @@
+pub mod Shown
+pub mod Edges
+pub mod Computed
+pub mod Examples

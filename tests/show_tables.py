@@ -1,0 +1,64 @@
+#!/usr/bin/env python3
+"""The lines that the program `show_tables` must print, worked out from document 01's section on table words.
+
+With no word, compares them with crates/show_tables/stdout; with the word print, prints them.
+"""
+import pathlib
+import sys
+
+STORED = pathlib.Path(__file__).resolve().parent.parent / "crates" / "show_tables" / "stdout"
+
+# The words of each table, and where a read starts on a port just started.
+SIZES = {5: 64, 6: 128, 7: 64}
+PLACE = 0
+
+
+def accepted(word):
+    """Whether a port just started accepts a command word, with the pod initialised."""
+    digits = f"{word:016b}"
+    if digits.count("1") % 2 == 0:
+        return False
+    reading = digits[1] == "1"
+    command = int(digits[2:7], 2)
+    length = int(digits[7:], 2)
+    if command == 0:
+        return not reading and length in (0, 1)
+    if command == 1:
+        return not reading and length == 1
+    if command not in SIZES or length not in range(4, 65):
+        return False
+    return not reading or PLACE + length - 3 <= SIZES[command]
+
+
+def lines():
+    """A line for each direction, command and N that is accepted, and the total."""
+    counts = {}
+    for word in range(65536):
+        if accepted(word):
+            key = word % 32768
+            counts[key] = counts.get(key, 0) + 1
+    for key in sorted(counts):
+        way = "read" if key >= 16384 else "write"
+        yield f"{way} {key // 512 % 32} N {key % 512}: {counts[key]}\n"
+    yield f"accepted {sum(counts.values())} of 65536\n"
+
+
+def main():
+    due = list(lines())
+    if sys.argv[1:] == ["print"]:
+        sys.stdout.write("".join(due))
+        return 0
+    stored = STORED.read_text().splitlines(keepends=True)
+    for number, (line, kept) in enumerate(zip(due, stored), 1):
+        if line != kept:
+            print(f"show_tables: line {number} is stored as {kept!r} and should be {line!r}")
+            return 1
+    if len(due) != len(stored):
+        print(f"show_tables: {len(stored)} lines are stored and {len(due)} are due")
+        return 1
+    print("show_tables: ok")
+    return 0
+
+
+if __name__ == "__main__":
+    sys.exit(main())
