@@ -62,6 +62,8 @@ computed x y z =
     ∷ line (framesShown (pipe (byte 9) ∷ deadline ∷ []) 5) (framesWith 128 4 20)
     ∷ line (framesShown (pipe (byte 9) ∷ off) 0) (framesWith 128 0 0)
     ∷ line (framesShown off 5) (framesWith 0 0 20)
+    -- "its sum divided by 16, rounded down": sums of 15 give 0
+    ∷ line (step justInitialised (samples 0 (replicate 8 15 ++ replicate 120 0)) .told .bytes) (replicate 5 0 ++ (4 ∷ replicate 10 0))
     ∷ []
 
 abbrev pub Computed : Type 0
