@@ -23,7 +23,7 @@ use Rattle.examples.specs.Shown.{justInitialised}
 use mathlib.Core.List.{[], _∷_}
 use Rattle.rules.specs.World.{world, next}
 use Rattle.examples.specs.Computed.{dusty}
-use Rattle.examples.specs.Packets.{Talks, checks, values, update, updated, Packets}
+use Rattle.examples.specs.Packets.{Talks, checks, values, unfit, update, updated, Packets}
 
 pub heard : Talks (world freshPod dusty) checks
 unfolding ran poly leaving bitIn bits bitsIn crcFrom crcOf withCrc answerOf errorAnswer statusBody valueBody numbersAt fieldsOf fieldsIn fieldsBounded findIn listedIn codeRow isCode commandPlace commandRow highFirst numberOf numberAt signedOf unsignedOf crcRight acknowledges packetRead isId inRows soundParams startParams writeAllowed filter missingIds missingOf storeSized soundRing placeBehind blockAt blocksFrom blocksIn oldestOf putRing putStore droppedRing soundPlaces soundTransfer soundWords startWords closeOf listed startTable tablesSized emptyInput freshInput soundInput freshPipe soundPipe powerCall packetHeard meantBody replyBytes spokenBytes answered packetCall putCall checksOf initialisedPod doneBy obeyOf matches dropFrom settled acknowledgedOf reportOf freshFields freshPod restful soundPod step tells
@@ -33,7 +33,7 @@ pub written : Talks justInitialised values
 unfolding ran poly leaving bitIn bits bitsIn crcFrom crcOf withCrc answerOf errorAnswer statusBody valueBody numbersAt fieldsOf fieldsIn fieldsBounded findIn listedIn codeRow isCode commandPlace commandRow highFirst numberOf numberAt signedOf unsignedOf crcRight acknowledges packetRead isId inRows soundParams startParams writeAllowed filter missingIds missingOf storeSized soundRing placeBehind blockAt blocksFrom blocksIn oldestOf putRing putStore droppedRing soundPlaces soundTransfer soundWords startWords closeOf listed startTable tablesSized emptyInput freshInput soundInput freshPipe soundPipe powerCall packetHeard meantBody replyBytes spokenBytes answered packetCall putCall checksOf initialisedPod doneBy obeyOf matches dropFrom settled acknowledgedOf reportOf freshFields freshPod restful soundPod step tells justInitialised commandBytes fieldBytes bodyOf laidOut final
 written = refl
 
-pub taken : Talks justInitialised (update ∷ [])
+pub taken : Talks justInitialised (unfit ∷ update ∷ [])
 unfolding ran poly leaving bitIn bits bitsIn crcFrom crcOf withCrc answerOf errorAnswer statusBody valueBody numbersAt fieldsOf fieldsIn fieldsBounded findIn listedIn codeRow isCode commandPlace commandRow highFirst numberOf numberAt signedOf unsignedOf crcRight acknowledges packetRead isId inRows soundParams startParams writeAllowed filter missingIds missingOf storeSized soundRing placeBehind blockAt blocksFrom blocksIn oldestOf putRing putStore droppedRing soundPlaces soundTransfer soundWords startWords closeOf listed startTable tablesSized emptyInput freshInput soundInput freshPipe soundPipe powerCall packetHeard meantBody replyBytes spokenBytes answered packetCall putCall checksOf initialisedPod doneBy obeyOf matches dropFrom settled acknowledgedOf reportOf freshFields freshPod restful soundPod step tells justInitialised commandBytes fieldBytes bodyOf laidOut final
 taken = refl
 

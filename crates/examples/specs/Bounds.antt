@@ -51,7 +51,9 @@ valued id vs =
 -- by id: one below the least, the least, the most, one above; "parameter 1 below parameter 2" ends the first two sooner
 abbrev pub valuesBounded : List Line
 valuesBounded =
-    map (λ (l : List ℕ). line l (0 ∷ 1 ∷ 1 ∷ 0 ∷ 0 ∷ 1 ∷ 1 ∷ 0 ∷ []))
+    -- "Ids 0 and over 12 get 0x39"
+    line (map (λ (id : ℕ). oneIf (writeAllowed startParams id (pos 0))) (0 ∷ 13 ∷ [])) (0 ∷ 0 ∷ [])
+    ∷ map (λ (l : List ℕ). line l (0 ∷ 1 ∷ 1 ∷ 0 ∷ 0 ∷ 1 ∷ 1 ∷ 0 ∷ []))
     (valued 1 (minus 4001 ∷ minus 4000 ∷ pos 11999 ∷ pos 12000 ∷ [])
     ∷ valued 2 (minus 2000 ∷ minus 1999 ∷ pos 15000 ∷ pos 15001 ∷ [])
     ∷ valued 3 (pos 99 ∷ pos 100 ∷ pos 1000 ∷ pos 1001 ∷ [])
