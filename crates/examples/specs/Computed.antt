@@ -10,7 +10,7 @@ use Rattle.blocks.specs.declared.Store.the-variants.{Priority, Ordinary}
 use Rattle.tables.specs.Tables.{three, listed}
 use Rattle.rules.specs.State.{Lent, freshPod}
 use Rattle.rules.specs.Refusals.{done}
-use Rattle.rules.specs.Families.{status, byte}
+use Rattle.rules.specs.Families.{status, PipeCall, byte, timeout}
 use Rattle.rules.specs.World.{world, Call, power, packet, deadline, put, word, pipe, samples, Told, told, answering, step, final, tells}
 use Rattle.examples.specs.Shown.{justInitialised, wordsOut, statusAfter, fiveAfter, order, loading, reading, load, read, Line, line, AsExpected}
 
@@ -21,6 +21,13 @@ off = packet (0x9F ∷ 0x01 ∷ 0x05 ∷ 0xFB ∷ []) (replicate 260 0) ∷ []
 -- the status word
 abbrev pub shows : List Call
 shows = word status ∷ []
+
+-- bytes for the pipe, and what a call of it then sends
+abbrev pub bytesIn : List ℕ → List Call
+bytesIn bs = map (λ (b : ℕ). pipe (byte b)) bs
+
+abbrev pub sentAfter : List Call → PipeCall → List ℕ
+sentAfter cs c = step (final justInitialised cs) (pipe c) .told .bytes
 
 -- the two frames after some calls, of a self-check number and the samples 0 to 127: channel c averages 60 + c
 abbrev pub framesShown : List Call → ℕ → List ℕ
@@ -62,6 +69,12 @@ computed x y z =
     ∷ line (framesShown (pipe (byte 9) ∷ deadline ∷ []) 5) (framesWith 128 4 20)
     ∷ line (framesShown (pipe (byte 9) ∷ off) 0) (framesWith 128 0 0)
     ∷ line (framesShown off 5) (framesWith 0 0 20)
+    -- "its sum divided by 16, rounded down": sums of 15 give 0
+    ∷ line (step justInitialised (samples 0 (replicate 8 15 ++ replicate 120 0)) .told .bytes) (replicate 5 0 ++ (4 ∷ replicate 10 0))
+    -- PipeIsHistory: "the eighth sends all eight"; "a short packet"
+    ∷ line (sentAfter (bytesIn (1 ∷ 2 ∷ 3 ∷ 4 ∷ 5 ∷ 6 ∷ 7 ∷ [])) (byte 8)) (1 ∷ 2 ∷ 3 ∷ 4 ∷ 5 ∷ 6 ∷ 7 ∷ 8 ∷ [])
+    ∷ line (sentAfter (bytesIn (1 ∷ 2 ∷ 3 ∷ 4 ∷ 5 ∷ 6 ∷ 7 ∷ 8 ∷ 9 ∷ 10 ∷ [])) timeout) (9 ∷ 10 ∷ [])
+    ∷ line (sentAfter (bytesIn (1 ∷ [])) (byte 2)) []
     ∷ []
 
 abbrev pub Computed : Type 0

@@ -1,7 +1,7 @@
 -- All that the owner asked for holds.
 -- Assumes nothing.
 use Rattle.rules.specs.Whole.{Whole}
-use Rattle.rules.proofs.Answered.{always-answered, lowest-first, refused-unchanged}
+use Rattle.rules.proofs.Answered.{always-answered, lowest-first, refused-unchanged, says-done}
 use Rattle.rules.proofs.Numbered.{rows-exactly}
 use Rattle.rules.proofs.Sound.{kept-sound}
 use Rattle.rules.proofs.LoadWhole.{load-whole}
@@ -30,6 +30,7 @@ whole =
       rows-exactly = rows-exactly;
       refused-unchanged = refused-unchanged;
       kept-sound = kept-sound;
+      says-done = says-done;
       load-whole = load-whole;
       load-cut = load-cut;
       read-whole = read-whole;

@@ -4,6 +4,7 @@ pub mod Obey
 pub mod Families
 pub mod Calls
 pub mod World
+pub mod Said
 pub mod History
 pub mod Replies
 pub mod Checks

@@ -2,6 +2,7 @@
 -- Assumes nothing.
 use Rattle.rules.specs.Demands.{AlwaysAnswered, LowestFirst, RowsExactly, RefusedUnchanged, KeptSound, LoadWhole, LoadCut, ReadWhole, ReadEnds, ReadMoves, TablesOnly, MessageError, StatusWordShows, PortOnly, PlacesOnly, PacketAnswered, ChecksExactly, OpensExactly, Damage, DamageAnswered, ErrorUnchanged, BlocksAreHistory, ReceiveIsHistory, StatusIsHistory, ReadIsWritten, PipeIsHistory, FramesAreHistory, NoTrace, AsFromPower, NoTracePast, AnswerAlike, AsleepFromPower, AsleepFromShutdown, TransferOnly, PortIsHistory, ReadsZero}
 use Rattle.rules.specs.Kept.{AwakeIsHistory, FieldsAreHistory, ExchangeIsHistory, ParamsAreHistory, MarksAreHistory, DropGuarded, FreshIs}
+use Rattle.rules.specs.Said.{SaysDone}
 
 pub record Whole : Type 0 where
   -- 1. each call is answered, or refused by a number, and a refused call changes nothing
@@ -10,6 +11,7 @@ pub record Whole : Type 0 where
   pub rows-exactly : RowsExactly
   pub refused-unchanged : RefusedUnchanged
   pub kept-sound : KeptSound
+  pub says-done : SaysDone
   -- 2. answers, tables, blocks and frames are exactly the papers'
   pub load-whole : LoadWhole
   pub load-cut : LoadCut
