@@ -1,9 +1,10 @@
 #!/usr/bin/env python3
 """The dawn flight of the console's stored test: each line, what it prints, and why.
 
-    tests/dawn.py           checks that crates/console/stdin and stdout are exactly these lines
-    tests/dawn.py --write   writes them
-    tests/dawn.py --doc     prints the table of docs/DAWN.md
+    tests/dawn.py           checks that crates/console/stdin and stdout and the table of docs/DAWN.md are exactly these lines
+    tests/dawn.py --write   writes all three
+
+In the table a line is whole, or named by its file and number.
 
 The answers are worked out here from document 01, with the CRC of Python's own binascii (polynomial 0x1021), and not by the pod.
 """
@@ -11,7 +12,11 @@ import binascii
 import os
 import sys
 
-ROOT = os.path.join(os.path.dirname(os.path.abspath(__file__)), '..', 'crates', 'console')
+TOP = os.path.join(os.path.dirname(os.path.abspath(__file__)), '..')
+STORED = 'crates/console/'
+PAGE = 'docs/DAWN.md'
+HEAD = '| line | prints | why |\n|---|---|---|\n'
+LONG = 100  # characters of a line that the page shows whole
 FLIGHT = []  # (line, answer, why)
 
 
@@ -228,29 +233,46 @@ def short(text):
     return text if len(text) <= 60 else text[:44] + ' .. ' + text[-11:]
 
 
-def main():
-    sent = ''.join(line + '\n' for line, _, _ in FLIGHT)
-    got = ''.join(answer + '\n' for _, answer, _ in FLIGHT)
-    if '--doc' in sys.argv:
-        for line, answer, why in FLIGHT:
-            print('| `%s` | `%s` | %s |' % (short(line), short(answer), why))
+def cell(text, name, number):
+    """A line of the table, whole or by its name."""
+    if len(text) <= LONG:
+        return '`%s`' % text if text else 'an empty line'
+    return '`%s..` (`%s%s` line %d)' % (text[:10], STORED, name, number)
+
+
+def page(held):
+    """The page with today's table at its end."""
+    rows = ['| %s | %s | %s |\n' % (cell(line, 'stdin', k), cell(answer, 'stdout', k), why)
+            for k, (line, answer, why) in enumerate(FLIGHT, 1)]
+    return held.split(HEAD)[0] + HEAD + ''.join(rows)
+
+
+def differs(name, held, text):
+    """Says where a file is not what it should be."""
+    if held == text:
         return 0
+    for k, (a, b) in enumerate(zip(held.split('\n'), text.split('\n'))):
+        if a != b:
+            print('%s, line %d: %s where the flight has %s' % (name, k + 1, short(a), short(b)))
+            return 1
+    print('%s: other lines than the flight' % name)
+    return 1
+
+
+def main():
+    texts = {STORED + 'stdin': ''.join(line + '\n' for line, _, _ in FLIGHT),
+             STORED + 'stdout': ''.join(answer + '\n' for _, answer, _ in FLIGHT)}
     bad = 0
-    for name, text in (('stdin', sent), ('stdout', got)):
-        path = os.path.join(ROOT, name)
+    for name in list(texts) + [PAGE]:
+        path = os.path.join(TOP, name)
+        with open(path) as f:
+            held = f.read()
+        text = texts.get(name) or page(held)
         if '--write' in sys.argv:
             with open(path, 'w') as f:
                 f.write(text)
-        with open(path) as f:
-            held = f.read()
-        if held != text:
-            bad = 1
-            for k, (a, b) in enumerate(zip(held.split('\n'), text.split('\n'))):
-                if a != b:
-                    print('%s, line %d: %s where the flight has %s' % (name, k + 1, short(a), short(b)))
-                    break
-            else:
-                print('%s: other lines than the flight' % name)
+            held = text
+        bad |= differs(name, held, text)
     print('dawn flight: %d lines, %s' % (len(FLIGHT), 'DIFFERENT' if bad else 'as stored'))
     return bad
 

@@ -44,6 +44,7 @@ READ = closed(0x94, 0x01, 3)
 REJECTED = bytes([0x96, 0x01]) + bytes(i % 256 for i in range(258))
 LOAD_64 = bytes([0x0C, 0x40])
 READ_64 = bytes([0xCC, 0x40])
+READ_4 = bytes([0xCC, 0x04])
 STARTS = bytes([0x00, 0x01])
 EVEN = NONE = bytes(2)
 BLOCK = bytes(range(256))
@@ -58,7 +59,7 @@ PACKETS = (
     Case("rejected: 260 bytes, CRC wrong", "P", REJECTED, 128),
 )
 WORDS = (
-    Case("command word: a read, another is closed", "C", READ_64 + READ_64, few=0, many=1),
+    Case("command word: a read, another is closed", "C", READ_4 + READ_4, few=13, many=113),
     Case("command word: a load, another is closed", "C", LOAD_64 + LOAD_64),
     Case("command word: refused, a read is closed", "C", READ_64 + EVEN, few=0, many=1),
     Case("data word in", "W", LOAD_64 + NONE, few=13, many=63),

@@ -81,6 +81,15 @@ def clang(*words):
     return run(tools() / "bin" / "clang", *words)
 
 
+def on_x86(program, given):
+    """What a program for x86-64 prints: run as it is on such a machine, and by the kit's emulator on another."""
+    words = [program]
+    if platform.machine() != "x86_64":
+        lib = tools() / "lib"
+        words = [tools() / "bin" / "qemu-x86_64", lib / "ld-linux-x86-64.so.2", "--library-path", lib, program]
+    return run(*words, input=given)
+
+
 def links(folder, to, but):
     """A folder of links to the parts of another, but one that is to be another."""
     folder.mkdir()
@@ -109,12 +118,15 @@ def keeper(name):
 def kept(name):
     """Where the module of a proved program lies, proved and compiled again where it isn't of the present files."""
     module, stamp, seen = KEPT / f"{name}.bc", TOP / "target" / "stamp" / name, KEPT / f"{name}.stamp"
-    run("rt", "check", name)
+    check = functools.partial(run, "rt", "check", name, env={**os.environ, "RATTLE_HOME": str(keeper(name))})
+    module.touch()
+    before = module.stat().st_mtime_ns
+    check()
     if seen.exists() and seen.read_bytes() == stamp.read_bytes():
         return module
-    place = keeper(name)
-    stamp.unlink()
-    run("rt", "check", name, env={**os.environ, "RATTLE_HOME": str(place)})
+    if module.stat().st_mtime_ns == before:  # it was proved and compiled before, and not kept
+        stamp.unlink()
+        check()
     if (TOP / "target" / "obj" / f"{name}.o").read_bytes() != compiled(name, module).read_bytes():
         fail(f"the module kept of {name} is not the one that was compiled")
     seen.write_bytes(stamp.read_bytes())
@@ -135,9 +147,12 @@ def text(name):
     return clang(*ways, "-S", "-emit-llvm", "-x", "ir", kept(name), "-o", "-").decode()
 
 
+@functools.cache
 def defined(call):
-    """The line by which a call of the pod is defined, whichever of its files it stands in."""
-    return re.compile(rf'^define internal (.*@"pod::(?:\w+::)*{call}"\(.*\)) (#\d+ {{)$', re.M)
+    """The line by which a call of the pod is defined, whichever crate and file it stands in: the crate `pod` names it."""
+    names = (TOP / "crates" / "pod" / "src" / "lib.rt").read_text()
+    found = re.findall(rf"^pub use (\w+)::{call};$", names, re.M) or fail(f"the crate pod names no {call}")
+    return re.compile(rf'^define internal (.*@"{found[0]}::(?:\w+::)*{call}"\(.*\)) (#\d+ {{)$', re.M)
 
 
 def external(ir):

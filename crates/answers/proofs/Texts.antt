@@ -26,10 +26,6 @@ Written text most at to l m = (to ≡ at + length text) × ((m ≡ sets l at tex
 pub written-as : (x y : List ℕ) (most at to : ℕ) (l m : List ℕ) → x ≡ y → Written x most at to l m → Written y most at to l m
 written-as x y most at to l m e w = rw (← e) w
 
--- and with more allowed
-pub written-in : (x : List ℕ) (few most at to : ℕ) (l m : List ℕ) → few ≤ most → Written x few at to l m → Written x most at to l m
-written-in x few most at to l m h w = (w .0, (w .1 .0, omega (arith, w .1 .1)))
-
 -- the line of each answer
 module _ (f : Form) (a : Answer) (bs : List ℕ) where
   pub said-refused : (r : Refusal) (n : ℕ) → a ≡ Refused r → n ≡ refusalNumber r → refusedLine (f .letter) n ≡ saidLine f (answerSaid a) bs

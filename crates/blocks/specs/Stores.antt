@@ -1,6 +1,6 @@
 -- A store of 256-byte blocks: what waits in it, and what a put and a drop make of it. Said once, for any capacity n.
-use Prim.Native.Nat.{ℕ, zero, suc, _+_, _-_, _*_}
-use mathlib.Core.Bool.{Bool, cond, _&&_}
+use Prim.Native.Nat.{ℕ, zero, suc, _+_, _-_, _*_, _%_}
+use mathlib.Core.Bool.{Bool, _&&_}
 use mathlib.Core.List.{List, [], _∷_}
 use lib.ListN.{length, take, drop, getD}
 use lib.Seq.{sets}
@@ -33,7 +33,7 @@ emptyRing = record { oldest = 0; waiting = 0 }
 
 -- the place k places behind place i: behind the last place comes the first, so that "room freed is used again"
 unfoldable pub placeBehind : ℕ → ℕ → ℕ → ℕ
-placeBehind n i k = cond (ltb (i + k) n) (i + k) (i + k - n)
+placeBehind n i k = (i + k) % n
 
 -- the block at a place: "of 256 bytes"
 unfoldable pub blockAt : List ℕ → ℕ → List ℕ

@@ -23,7 +23,7 @@ fn put_gate(pod: Pod, which: Store, store: &[u8], block: &[u8]) -> Gate
     if !sound(pod) {
         return Gate::Shut(Refusal::State);
     }
-    if block.len() != 256 {
+    if block.len() != blocks::BLOCK {
         return Gate::Shut(Refusal::Count);
     }
     if !pod.initialised {

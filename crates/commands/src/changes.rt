@@ -79,7 +79,6 @@ pub fn with_pipe(pod: Pod, pipe: Pipe) -> Pod
     next
 }
 
-// The ring of a store.
 pub fn ring_of(pod: Pod, which: Store) -> Ring
     ensures { λ r. ⌜ r ≡ ringOf which pod ⌝ }
 {

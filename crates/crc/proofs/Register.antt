@@ -1,5 +1,4 @@
 -- The register of 16 bits: it is carried on from bytes to bytes, stays below 2 ^ 16, and is linear.
--- Assumes nothing.
 use mathlib.Core.Path.{_≡_, refl, ap, ap₂, _∙_}
 use mathlib.Core.List.{List, [], _∷_, _++_}
 use Prim.Native.Nat.{ℕ, zero, suc, _*_, _/_, _%_, _^_, _<_}
@@ -79,21 +78,5 @@ bit-xor x y k = ap (λ (z : ℕ). z % 2) (xor-shr x y k) ∙ xor-mod (x / 2 ^ k)
 pub byteIn-xor : (a b x y : ℕ) → byteIn (bitXor a b) (bitXor x y) ≡ bitXor (byteIn a x) (byteIn b y)
 unfolding byteIn crcFrom bitsIn bits
 byteIn-xor a b x y =
-    rw (
-      bit-xor x y 7,
-      bit-xor x y 6,
-      bit-xor x y 5,
-      bit-xor x y 4,
-      bit-xor x y 3,
-      bit-xor x y 2,
-      bit-xor x y 1,
-      bit-xor x y 0,
-      bitIn-xor,
-      bitIn-xor,
-      bitIn-xor,
-      bitIn-xor,
-      bitIn-xor,
-      bitIn-xor,
-      bitIn-xor,
-      bitIn-xor,
-    )
+    rw (bit-xor x y 7, bit-xor x y 6, bit-xor x y 5, bit-xor x y 4, bit-xor x y 3, bit-xor x y 2, bit-xor x y 1, bit-xor x y 0)
+    (simp bitIn-xor)

@@ -1,5 +1,4 @@
 -- Laws of exclusive or that lib.Bits does not have.
--- Assumes nothing.
 use mathlib.Core.Path.{_≡_, refl, sym, ap, _∙_}
 use Prim.Native.Nat.{ℕ, _+_, _/_, _%_}
 use native.Mathlib.Nat.{add-assoc}

@@ -1,31 +1,24 @@
 -- What holds of the two frames.
--- Assumes nothing.
 use Prim.Native.Nat.{ℕ, _^_, _≤_, _<_}
 use mathlib.Core.Path.{_≡_, refl, sym, _∙_}
 use mathlib.Core.Logic.{_≢_}
 use mathlib.Core.Bool.{Bool, true, false, cond}
 use mathlib.Core.List.{List}
 use native.Mathlib.Omega.{arith}
+use borrow.Author.Needs.{needs}
 use lib.ListN.{getD}
 use Rattle.pipe.specs.declared.Pipe.{Pipe}
 use Rattle.pipe.specs.Input.{gatheringOf}
-use Rattle.pipe.proofs.Stale.{Alike, alike-gathered}
 use Rattle.frames.specs.Samples.{averageOf, averagesOf, boundedOf}
-use Rattle.frames.specs.Fields.{frame}
-use Rattle.frames.proofs.Shape.{channelAt, disjoint, tiles, Each, Narrow, ReadBack}
+use Rattle.frames.specs.Fields.{placed, frame}
+use Rattle.frames.proofs.Shape.{channelAt, disjoint, tiles, Each, ReadBack}
 use Rattle.frames.specs.Layout.{lines03, lines47, framesOf}
-use Rattle.frames.proofs.Tiles.{read-back}
 use Rattle.frames.proofs.Bytes.{bytes-03, bytes-47}
 use Rattle.frames.proofs.Means.{average-fits, averages-at}
 
 flag-fits : (f : Bool) → cond f 1 0 < 2
 flag-fits true = omega arith
 flag-fits false = omega arith
-
-infixr 10 _and_
--- a fact of the first field and of each that follows
-_and_ : {A B : Type 0} → A → B → A × B
-_and_ a b = (a, b)
 
 module _ (a : List ℕ) (p : Pipe) (on : Bool) (check : ℕ) where
   -- no field of AN03 overlaps another
@@ -38,23 +31,13 @@ module _ (a : List ℕ) (p : Pipe) (on : Bool) (check : ℕ) where
   unfolding lines03
   tiles-03 = refl
 
-  -- each field of AN03 fits its bits
-  pub narrow-03 : p .input .timeouts ≤ 15 → check ≤ 31 → Each Narrow (lines03 a p on check)
-  unfolding lines03
-  narrow-03 t c =
-      (omega arith) and (omega arith)
-      and (omega arith) and (omega arith)
-      and (omega arith)
-      and flag-fits (gatheringOf (p .input)) and (omega arith) and (omega arith) and (omega arith) and (omega arith)
-      and (omega arith)
-      and (omega arith) and (omega arith) and (omega arith) and (omega arith) and (omega arith) and flag-fits on and (omega arith)
-      and (omega arith)
-      and (omega arith) and (omega arith) and (omega arith)
-      and tt
-
   -- each field of AN03 can be read back from the frame
   pub read-back-03 : p .input .timeouts ≤ 15 → check ≤ 31 → Each (ReadBack (frame (lines03 a p on check))) (lines03 a p on check)
-  read-back-03 t c = read-back (lines03 a p on check) tiles-03 (narrow-03 t c)
+  unfolding lines03 frame placed
+  read-back-03 t c =
+      let gathering = flag-fits (gatheringOf (p .input)) in
+      let awake = flag-fits on in
+      search needs
 
 module _ (a : List ℕ) where
   -- no field of AN47 overlaps another
@@ -67,23 +50,10 @@ module _ (a : List ℕ) where
   unfolding lines47
   tiles-47 = refl
 
-  -- each field of AN47 fits its bits
-  pub narrow-47 : Each Narrow (lines47 a)
-  unfolding lines47
-  narrow-47 =
-      (omega arith)
-      and (omega arith)
-      and (omega arith)
-      and (omega arith) and (omega arith)
-      and (omega arith)
-      and (omega arith) and (omega arith)
-      and (omega arith)
-      and (omega arith) and (omega arith)
-      and tt
-
   -- each field of AN47 can be read back from the frame
   pub read-back-47 : Each (ReadBack (frame (lines47 a))) (lines47 a)
-  read-back-47 = read-back (lines47 a) tiles-47 narrow-47
+  unfolding lines47 frame placed
+  read-back-47 = search needs
 
 module _ (n : ℕ) (xs : List ℕ) (p : Pipe) (on : Bool) (check : ℕ) (h : boundedOf xs ≡ true) where
   known : (c : ℕ) → c < 8 → (getD (averagesOf n xs) c 0 ≡ averageOf n xs c) × (averageOf n xs c < 2 ^ 10)
@@ -123,8 +93,3 @@ unsent n xs ys p on check same =
   where
     sent : (c : ℕ) → c < 8 → c ≢ 0 → c ≢ 4 → getD (averagesOf n xs) c 0 ≡ getD (averagesOf n ys) c 0
     sent c l y z = averages-at n xs c l ∙ same c y z ∙ sym (averages-at n ys c l)
-
--- bytes that lie behind the gathered ones never show in a frame
-pub alike-frames : (n : ℕ) (xs : List ℕ) (p q : Pipe) (on : Bool) (check : ℕ) → Alike (p .input) (q .input) → framesOf n xs p on check ≡ framesOf n xs q on check
-unfolding framesOf lines03 gatheringOf
-alike-frames n xs p q on check a = rw (a .counts, alike-gathered a)

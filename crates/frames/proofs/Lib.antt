@@ -4,6 +4,5 @@ pub mod Bounds
 pub mod Sums
 pub mod Bytes
 pub mod Shape
-pub mod Tiles
 pub mod Means
 pub mod Laws

@@ -1,11 +1,10 @@
 -- What holds of the averages, over any pass count.
--- Assumes nothing.
 use Prim.Native.Nat.{ℕ, zero, suc, _+_, _*_, _/_, _%_, _^_, _≤_, _<_}
 use mathlib.Core.Path.{_≡_, refl, ap}
 use mathlib.Core.Bool.{true}
 use mathlib.Core.List.{List}
 use native.Mathlib.Omega.{arith}
-use native.Mathlib.Nat.{add-mul, div-le-of-le-mul, div-mul-le-self, lt-div-mul-add, mul-div-cancel-left, suc-mul}
+use native.Mathlib.Nat.{add-mul, div-le-of-le-mul, div-mul-le-self, lt-div-mul-add}
 use lib.ListN.{getD}
 use Rattle.frames.specs.Samples.{sampleAt, sumOf, averageOf, averagesOf, boundedOf}
 use Rattle.frames.proofs.Sums.{sum-most}
@@ -15,10 +14,6 @@ use Rattle.frames.proofs.Eight.{eight-at}
 pub sample-place : (xs : List ℕ) (k : ℕ) → getD xs k 0 ≡ sampleAt xs (k / 8) (k % 8)
 unfolding sampleAt
 sample-place xs k = let place : k / 8 * 8 + k % 8 ≡ k = omega arith in rw place
-
--- sums over at most sixteen passes fit sixteen bits
-pub sum-fits : (n : ℕ) (xs : List ℕ) (c : ℕ) → n ≤ 16 → boundedOf xs ≡ true → sumOf n xs c < 2 ^ 16
-sum-fits n xs c l h = omega (arith, sum-most n xs c h)
 
 -- averages over bounded samples fit ten bits
 pub average-fits : (n : ℕ) (xs : List ℕ) (c : ℕ) → boundedOf xs ≡ true → averageOf n xs c < 2 ^ 10
@@ -46,19 +41,6 @@ same-sums (suc n) xs ys c same =
 pub own-samples : (n : ℕ) (xs ys : List ℕ) (c : ℕ) → ((p : ℕ) → p < n → sampleAt xs p c ≡ sampleAt ys p c) → averageOf n xs c ≡ averageOf n ys c
 unfolding averageOf
 own-samples n xs ys c same = ap (λ (s : ℕ). s / n) (same-sums n xs ys c same)
-
-times : (n : ℕ) (xs : List ℕ) (c v : ℕ) → ((p : ℕ) → p < n → sampleAt xs p c ≡ v) → sumOf n xs c ≡ n * v
-unfolding sumOf
-times zero xs c v same = omega arith
-times (suc n) xs c v same =
-    let before = times n xs c v (λ p h. same p (omega arith)) in
-    let last = same n (omega arith) in
-    omega (arith, suc-mul n v)
-
--- equal samples average to themselves
-pub average-same : (n : ℕ) (xs : List ℕ) (c v : ℕ) → 1 ≤ n → ((p : ℕ) → p < n → sampleAt xs p c ≡ v) → averageOf n xs c ≡ v
-unfolding averageOf
-average-same n xs c v l same = rw (times n xs c v same) (mul-div-cancel-left v l)
 
 -- the average at a channel's place
 pub averages-at : (n : ℕ) (xs : List ℕ) (c : ℕ) → c < 8 → getD (averagesOf n xs) c 0 ≡ averageOf n xs c

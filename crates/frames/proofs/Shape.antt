@@ -1,5 +1,5 @@
 -- How the fields of a frame lie, and how they are read back.
-use Prim.Native.Nat.{ℕ, _+_, _-_, _*_, _^_, _<_}
+use Prim.Native.Nat.{ℕ, _+_, _*_}
 use mathlib.Core.Path.{_≡_}
 use mathlib.Core.Bool.{Bool, true, cond, not, _&&_, _||_}
 use mathlib.Core.List.{List, [], _∷_}
@@ -10,10 +10,6 @@ use Rattle.frames.specs.Fields.{Field, part}
 -- a channel in a frame: "low byte, then bits 9 and 8"
 unfoldable pub channelAt : List ℕ → ℕ → ℕ
 channelAt bytes k = getD bytes k 0 + part (getD bytes (k + 1) 0) 1 0 * 256
-
--- a field's width in bits
-abbrev pub width : Field → ℕ
-width f = f .high + 1 - f .low
 
 -- two fields that share no bit
 abbrev pub apart : Field → Field → Bool
@@ -40,10 +36,6 @@ tiles k t (f ∷ fs) =
 abbrev pub Each : (Field → Type 0) → List Field → Type 0
 Each P [] = Unit {0}
 Each P (f ∷ fs) = P f × Each P fs
-
--- a field's value fits its width
-abbrev pub Narrow : Field → Type 0
-Narrow f = f .value < 2 ^ width f
 
 -- a field's value can be read back from a frame
 abbrev pub ReadBack : List ℕ → Field → Type 0

@@ -1,12 +1,12 @@
 -- A text from its front, and runs of stores one behind the other.
 -- Assumes nothing.
-use Prim.Native.Nat.{ℕ, suc, _+_, _<_}
-use native.Mathlib.Omega.{arith}
+use Prim.Native.Nat.{ℕ, _+_, _<_}
 use native.Mathlib.Numerals.{add-one}
 use mathlib.Core.Path.{_≡_, sym, ap, _∙_}
-use mathlib.Core.List.{List, [], _∷_, _++_}
-use lib.ListN.{length, drop, getD, set}
+use mathlib.Core.List.{List, _∷_, _++_}
+use lib.ListN.{length, drop, getD}
 use lib.Seq.{sets, drop-cons}
+use Rattle.numbers.proofs.Stores.{sets-append}
 
 -- the next character, and what stands behind it
 pub next : (t : List ℕ) (i k : ℕ) → i < length t → i + 1 ≡ k → drop i t ≡ getD t i 0 ∷ drop k t
@@ -14,8 +14,7 @@ next t i k h e = drop-cons t i 0 h ∙ ap (λ (j : ℕ). getD t i 0 ∷ drop j t
 
 -- two runs of stores, the second behind the first, are one
 pub sets-join : (vs ws l : List ℕ) (i k : ℕ) → i + length vs ≡ k → sets (sets l i vs) k ws ≡ sets l i (vs ++ ws)
-sets-join [] ws l i k e = let z : k ≡ i = omega arith in ap (λ (j : ℕ). sets l j ws) z
-sets-join (v ∷ vs) ws l i k e = sets-join vs ws (set l i v) (suc i) k (omega arith)
+sets-join vs ws l i k e = rw (← e) (sym (sets-append l i vs ws))
 
 -- and so are three
 pub three-runs : (xs ys zs l k m n : List ℕ) (at first last : ℕ) → k ≡ sets l at xs → m ≡ sets k first ys → n ≡ sets m last zs

@@ -3,7 +3,7 @@
 use Prim.Native.Nat.{ℕ, _+_, _*_, _/_, _%_, _≤_, _<_}
 use native.Mathlib.Omega.{arith}
 use borrow.Author.Tests.{lt-ltb, le-ltb}
-use mathlib.Core.Path.{_≡_, refl, ap}
+use mathlib.Core.Path.{_≡_, refl}
 use mathlib.Core.List.{List, [], _∷_, _++_}
 use lib.ListN.{length, drop, getD, drop-of-length-le, length-append}
 use Rattle.hex.specs.Digits.{byteDigits}
@@ -41,11 +41,6 @@ some-line c (b ∷ bs) h = refl
 
 pub some-length : (c : ℕ) (bs : List ℕ) → (length bs ≡ 0 → ⊥) → length (bytesLine c bs) ≡ 3 * length bs + 2
 some-length c bs h = rw (some-line c bs h) (omega (arith, length-append (spell bs) (10 ∷ []), spell-length bs))
-
--- a line of bytes has at most three characters for each, and four
-pub line-most : (c : ℕ) (bs : List ℕ) → length (bytesLine c bs) ≤ 3 * length bs + 4
-line-most c [] = omega (arith, ap length (none-line c [] refl))
-line-most c (b ∷ bs) = omega (arith, some-length c (b ∷ bs) (λ e. omega arith))
 
 -- a refusal's number has one digit ..
 pub one-digit : (c n : ℕ) → n < 10 → refusedLine c n ≡ c ∷ 32 ∷ 33 ∷ (48 + n) ∷ 10 ∷ []

@@ -10,12 +10,8 @@ pub fn append(out: &mut [u8], at: usize, text: &[u8]) -> usize
     ensures { λ r. ⌜ r ≡ at + length (now (text .entry)) ⌝ }
     ensures { λ _. ⌜ now (out .exit) ≡ sets (now (out .entry)) at (now (text .entry)) ⌝ }
 {
-    let mut i = 0;
-    while i < text.len() {
-        out[at + i] = text[i];
-        i += 1;
-    }
-    at + i
+    numbers::copy(out, at, text);
+    at + text.len()
 }
 
 // The first characters of a text, so many, or all where it has fewer.

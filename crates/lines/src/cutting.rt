@@ -57,7 +57,7 @@ pub fn line_end(text: &[u8], from: usize) -> usize
 }
 
 // Keeps a part of a line behind what came of it before, unless the line is too long.
-pub fn hold(line: &mut [u8], held: usize, part: &[u8]) -> usize
+fn hold(line: &mut [u8], held: usize, part: &[u8]) -> usize
     requires { ⌜ (196606 ≤ length (now line)) × (held ≤ 196607) ⌝ }
     ensures { λ r. ⌜ r ≡ heldOf held (length (now (part .entry))) ⌝ }
     ensures { λ _. ⌜ now (line .exit) ≡ keptOf (now (line .entry)) held (now (part .entry)) ⌝ }

@@ -5,7 +5,6 @@ mod cutting;
 pub use asking::packet_line;
 pub use asking::read_line;
 use blocks::Store;
-pub use cutting::hold;
 pub use cutting::last;
 pub use cutting::line_end;
 pub use cutting::next_line;

@@ -1,5 +1,4 @@
 -- Signed numbers in two's complement: for any count of bytes, and what the code of `signed` and `unsigned` computes by way of 64 bits.
--- Assumes nothing.
 use Prim.Native.Nat.{ℕ, suc, _*_, _/_, _^_, _<_, _≤_, _-_}
 use native.Mathlib.Omega.{arith}
 use native.Mathlib.Nat.{pow-succ'}

@@ -1,5 +1,4 @@
 -- Numbers as bytes, high byte first: for any count of bytes, and as the code reads and stores two and four.
--- Assumes nothing.
 use Prim.Native.Nat.{ℕ, zero, suc, _+_, _*_, _/_, _%_, _^_, _<_, _≤_}
 use native.Mathlib.Omega.{arith}
 use native.Mathlib.Nat.{pow-succ', mod-eq-of-lt, one-le-pow}

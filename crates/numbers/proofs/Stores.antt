@@ -1,12 +1,11 @@
 -- Runs of stores into a list: in two parts, what they keep, and stores into a part that was lent.
--- Assumes nothing.
 use Prim.Native.Nat.{ℕ, suc, _+_, _-_, _<_, _≤_}
 use native.Mathlib.Omega.{arith}
 use native.Mathlib.Nat.{zero-add}
 use mathlib.Core.Path.{_≡_, refl, sym, ap, _∙_}
 use mathlib.Core.List.{List, [], _∷_, _++_, append-assoc, append-nil}
-use lib.ListN.{length, getD, take, drop, set, length-take, length-drop, drop-of-length-le}
-use lib.Seq.{sets, sets-eq, take-all, take-length, drop-drop, getD-set-other}
+use lib.ListN.{length, getD, take, drop, set, length-take, length-drop, drop-of-length-le, List·getD-append}
+use lib.Seq.{sets, sets-eq, length-take-le, getD-append-add, take-all, take-length, drop-drop, getD-set-other}
 
 -- a run of stores in two parts
 pub sets-append : (l : List ℕ) (i : ℕ) (xs ys : List ℕ) → sets l i (xs ++ ys) ≡ sets (sets l i xs) (i + length xs) ys
@@ -23,6 +22,12 @@ sets-before (v ∷ vs) l i k h = sets-before vs (set l i v) (suc i) k (omega ari
 pub sets-behind : (vs l : List ℕ) (i k : ℕ) → i + length vs ≤ k → getD (sets l i vs) k 0 ≡ getD l k 0
 sets-behind [] l i k h = refl
 sets-behind (v ∷ vs) l i k h = sets-behind vs (set l i v) (suc i) k (omega arith) ∙ getD-set-other l i k v 0 (λ e. omega arith)
+
+-- in it the run stands
+pub sets-inside : (vs l : List ℕ) (i j : ℕ) → j < length vs → i + length vs ≤ length l → getD (sets l i vs) (i + j) 0 ≡ getD vs j 0
+sets-inside vs l i j h k =
+    let front : length (take i l) ≡ i = length-take-le i l (omega arith) in
+    rw (sets-eq vs l i k, append-assoc, ap (λ (m : ℕ). m + j) (sym front)) (getD-append-add (take i l) (vs ++ drop (i + length vs) l) j 0 ∙ List·getD-append vs (drop (i + length vs) l) 0 j h)
 
 -- the part from n to the end, lent, written from its start and given back
 pub lent : (l ys vs : List ℕ) (n k : ℕ) → n + length vs ≤ length l → k ≡ length l - n → ys ≡ sets (take k (drop n l)) 0 vs

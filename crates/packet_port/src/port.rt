@@ -21,7 +21,7 @@ ghost use Rattle.rows.specs.Rows.{out, given};
 ghost use Rattle.packets.specs.Reading.{packetRead};
 ghost use Rattle.packets.specs.Answers.{Written};
 ghost use Rattle.tables.specs.Tables.{three, starts};
-ghost use Rattle.rules.specs.State.{Lent, withStores, withTables};
+ghost use Rattle.rules.specs.State.{Lent, withStores, withTables, soundPod};
 ghost use Rattle.rules.specs.Refusals.{answerSaid};
 ghost use Rattle.rules.specs.Obey.{replySaid, shut, obeyOf};
 ghost use Rattle.rules.specs.Calls.{roomed, replied, packetHeard, replyBytes, packetRows, packetCall};
@@ -125,8 +125,9 @@ fn restart(yes: bool, five: &mut [u16], six: &mut [u16], seven: &mut [u16])
     tables::to_starts(five, six, seven);
 }
 
+// The rows of a packet, of a pod whose bounds were judged: the verdict is handed in, and not the pod.
 fn packet_gate(
-    pod: Pod,
+    ok: bool,
     room: &[u8],
     priority: &[u8],
     ordinary: &[u8],
@@ -134,9 +135,9 @@ fn packet_gate(
     six: &[u16],
     seven: &[u16],
 ) -> Gate
-    ensures { λ r. ⌜ ((l : Lent) → Gated r (packetRows (roomed (now (room .entry)) (withTables (three (now (five .entry)) (now (six .entry)) (now (seven .entry))) (withStores (now (priority .entry)) (now (ordinary .entry)) l))) pod)) ⌝ }
+    ensures { λ r. ⌜ ((l : Lent) (p : Pod) → ok ≡ soundPod p → Gated r (packetRows (roomed (now (room .entry)) (withTables (three (now (five .entry)) (now (six .entry)) (now (seven .entry))) (withStores (now (priority .entry)) (now (ordinary .entry)) l))) p)) ⌝ }
 {
-    if room.len() < 260 {
+    if room.len() < packets::ROOM {
         return Gate::Shut(Refusal::Room);
     }
     let sized = blocks::sized(Store::Priority, priority)
@@ -144,7 +145,7 @@ fn packet_gate(
     if !sized {
         return Gate::Shut(Refusal::Size);
     }
-    if !sound(pod) {
+    if !ok {
         return Gate::Shut(Refusal::State);
     }
     Gate::Open
@@ -162,7 +163,7 @@ pub fn packet<'a>(
 ) -> Called
     ensures { λ r. ⌜ ((l : Lent) → out (answerSaid (r .answer)) (r .pod) (roomed (now (room .exit)) (withTables (three (now (five .exit)) (now (six .exit)) (now (seven .exit))) (withStores (now (priority .entry)) (now (ordinary .entry)) l))) ≡ packetCall (now (bytes .entry)) (roomed (now (room .entry)) (withTables (three (now (five .entry)) (now (six .entry)) (now (seven .entry))) (withStores (now (priority .entry)) (now (ordinary .entry)) l))) pod) ⌝ }
 {
-    let gate = packet_gate(pod, room, priority, ordinary, five, six, seven);
+    let gate = packet_gate(sound(pod), room, priority, ordinary, five, six, seven);
     match gate {
         Gate::Shut(why) => Called {
             answer: Answer::Refused(why),

@@ -1,5 +1,4 @@
 -- The checks of a packet, each from the facts that lead to it.
--- Assumes nothing.
 use Prim.Native.Nat.{ℕ, _<_, _≤_}
 use native.Mathlib.Omega.{arith}
 use mathlib.Core.Path.{_≡_}

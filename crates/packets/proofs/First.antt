@@ -1,5 +1,4 @@
 -- The first byte of what a packet is taken as is the packet's own.
--- Assumes nothing.
 use Prim.Native.Nat.{ℕ, _<_}
 use native.Mathlib.Omega.{arith}
 use mathlib.Core.Path.{_≡_, refl, sym, ap, _∙_}

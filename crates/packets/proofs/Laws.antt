@@ -1,16 +1,14 @@
 -- What callers may want to know of packets and answers, without opening a definition.
--- Assumes nothing.
-use Prim.Native.Nat.{ℕ, _+_, _≤_, _-_}
+use Prim.Native.Nat.{ℕ, _+_, _≤_}
 use native.Mathlib.Omega.{arith}
 use mathlib.Core.Path.{_≡_, refl, sym, ap, _∙_}
 use mathlib.Core.List.{List, [], _∷_}
 use mathlib.Core.Logic.{_⊎_, ⊎-elim}
-use mathlib.Core.Bool.{Bool, true, false, _&&_}
+use mathlib.Core.Bool.{true, and-eq-true-iff}
 use borrow.Author.Tests.{leb-true, le-leb, eqb-true}
 use lib.Dec.{leb, eqb}
 use lib.IntN.{ℤ, pos, negsuc}
-use lib.ListN.{length, getD, take, drop}
-use Rattle.crc.specs.Crc.{crcOf}
+use lib.ListN.{length, getD}
 use Rattle.packets.specs.declared.Fields.{Fields}
 use Rattle.packets.specs.declared.Report.{Report}
 use Rattle.packets.specs.declared.Command.{Command}
@@ -28,7 +26,7 @@ use Rattle.packets.proofs.Room.{answer-length}
 use Rattle.packets.proofs.Bodies.{status-body-length, value-body-length}
 use Rattle.packets.proofs.First.{named, not-empty}
 use Rattle.packets.proofs.Said.{one-to-one}
-use Rattle.packets.proofs.Sent.{rest-of, last-of, closed-right}
+use Rattle.packets.proofs.Sent.{closed-right}
 
 -- ---- what `read` promises
 
@@ -39,13 +37,6 @@ read-decided r p = one-to-one r (packetRead p)
 -- an empty packet is read as nothing
 pub nothing : packetRead [] ≡ Nothing
 nothing = empty [] refl
-
--- and only an empty packet is
-pub only-nothing : (p : List ℕ) → packetRead p ≡ Nothing → length p ≡ 0
-unfolding parsedSaid
-only-nothing p e =
-    split (eqb (length p) 0) (λ z. eqb-true (length p) 0 z)
-    (λ z. let n = named p (not-empty p z) in let no-number : _≡_ {A = ℕ} 0 1 = cc in absurd (omega arith))
 
 taken-first : (p : List ℕ) (x : Parsed) → packetRead p ≡ x → (x ≡ Nothing → ⊥) → getD (parsedSaid x) 1 (negsuc 0) ≡ pos (first p)
 taken-first p x e n =
@@ -117,14 +108,7 @@ unfolding commandRow commandPlace
 data-listed c w f block e =
     ⊎-elim (λ h. rw h (data-length f block e)) (λ h. rw h (data-length f block e)) w
 
--- an answer's last two bytes are the CRC of the rest
-pub last-two : (f s : ℕ) (body : List ℕ)
-    → drop (length (answerOf f s body) - 2) (answerOf f s body) ≡ highFirst 2 (crcOf (take (length (answerOf f s body) - 2) (answerOf f s body)))
-unfolding answerOf
-last-two f s body =
-    last-of (f ∷ s ∷ body) ∙ ap (λ (l : List ℕ). highFirst 2 (crcOf l)) (sym (rest-of (f ∷ s ∷ body)))
-
--- so whoever gets it finds its CRC right
+-- whoever gets an answer finds its CRC right
 pub answer-right : (f s : ℕ) (body : List ℕ) → crcRight (answerOf f s body) ≡ true
 unfolding answerOf
 answer-right f s body = closed-right (f ∷ s ∷ body)
@@ -166,37 +150,31 @@ pub record Within (f : Fields) : Type 0 where
   pub least : 1 ≤ f .poll
   pub most : f .poll ≤ 60000
 
-both : (a b : Bool) → (a && b) ≡ true → (a ≡ true) × (b ≡ true)
-both true b h = (refl, h)
-both false b h = let z : _≡_ {A = ℕ} 0 1 = cc in absurd (omega arith)
-
 pub bounded-within : (f : Fields) → fieldsBounded f ≡ true → Within f
 unfolding fieldsBounded
 bounded-within f h =
-    let a = leb (f .mode) 3 in
-    let b = leb (f .milliseconds) 999 in
-    let c = leb (f .priorityremaining) (f .prioritylimit) in
-    let d = leb (f .memoryremaining) (f .memorylimit) in
-    let e = leb 1 (f .poll) in
-    let five = both (a && b && c && d && e) (leb (f .poll) 60000) h in
-    let four = both (a && b && c && d) e (five .0) in
-    let three = both (a && b && c) d (four .0) in
-    let two = both (a && b) c (three .0) in
-    let one = both a b (two .0) in
+    let five = and-eq-true-iff _ (leb (f .poll) 60000) .0 h in
+    let four = and-eq-true-iff _ (leb 1 (f .poll)) .0 (five .0) in
+    let three = and-eq-true-iff _ (leb (f .memoryremaining) (f .memorylimit)) .0 (four .0) in
+    let two = and-eq-true-iff _ (leb (f .priorityremaining) (f .prioritylimit)) .0 (three .0) in
+    let one = and-eq-true-iff (leb (f .mode) 3) (leb (f .milliseconds) 999) .0 (two .0) in
     record {
-      mode = leb-true (f .mode) 3 (one .0);
-      milliseconds = leb-true (f .milliseconds) 999 (one .1);
-      priority = leb-true (f .priorityremaining) (f .prioritylimit) (two .1);
-      memory = leb-true (f .memoryremaining) (f .memorylimit) (three .1);
-      least = leb-true 1 (f .poll) (four .1);
-      most = leb-true (f .poll) 60000 (five .1);
+      mode = leb-true _ _ (one .0);
+      milliseconds = leb-true _ _ (one .1);
+      priority = leb-true _ _ (two .1);
+      memory = leb-true _ _ (three .1);
+      least = leb-true _ _ (four .1);
+      most = leb-true _ _ (five .1);
     }
 
 pub within-bounded : (f : Fields) → Within f → fieldsBounded f ≡ true
 unfolding fieldsBounded
 within-bounded f w =
-    let a = le-leb (f .mode) 3 (w .mode) in
-    let b = le-leb (f .milliseconds) 999 (w .milliseconds) in
-    let c = le-leb (f .priorityremaining) (f .prioritylimit) (w .priority) in
-    let d = le-leb (f .memoryremaining) (f .memorylimit) (w .memory) in
-    simp (a, b, c, d, le-leb 1 (f .poll) (w .least), le-leb (f .poll) 60000 (w .most))
+    simp (
+      le-leb _ _ (w .mode),
+      le-leb _ _ (w .milliseconds),
+      le-leb _ _ (w .priority),
+      le-leb _ _ (w .memory),
+      le-leb _ _ (w .least),
+      le-leb _ _ (w .most),
+    )

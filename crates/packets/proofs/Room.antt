@@ -1,5 +1,4 @@
 -- The room while an answer is written: two bytes, the body into the part from byte 2 on, the CRC behind it. One law serves every answer.
--- Assumes nothing.
 use Prim.Native.Nat.{ℕ, _+_, _≤_, _-_}
 use native.Mathlib.Omega.{arith}
 use native.Mathlib.Nat.{zero-add}

@@ -1,5 +1,4 @@
 -- `parsedSaid` is one-to-one: what a packet is taken as can be told from its numbers.
--- Assumes nothing.
 use Prim.Native.Nat.{ℕ}
 use mathlib.Core.Path.{_≡_, refl, sym, ap, _∙_}
 use mathlib.Core.List.{List}

@@ -1,5 +1,4 @@
 -- The commands that their bytes can carry.
--- Assumes nothing.
 use Prim.Native.Nat.{_^_, _<_}
 use mathlib.Core.Path.{_≡_}
 use lib.Signed.{mag}

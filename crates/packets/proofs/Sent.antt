@@ -1,9 +1,8 @@
 -- What was closed by its CRC has a right CRC, and a command's bytes are read as that command.
--- Assumes nothing.
 use Prim.Native.Nat.{ℕ, _+_, _*_, _/_, _%_, _≤_, _-_}
 use native.Mathlib.Omega.{arith}
 use mathlib.Core.Path.{_≡_, refl, sym, ap, _∙_}
-use mathlib.Core.List.{List, [], _∷_, _++_}
+use mathlib.Core.List.{List, [], _∷_}
 use mathlib.Core.Bool.{true, false}
 use borrow.Author.Tests.{le-leb, eq-eqb, ne-eqb}
 use lib.ListN.{length, take, drop, length-append}
@@ -25,20 +24,19 @@ use Rattle.numbers.proofs.Digits.{high-first-length, number-back}
 use Rattle.numbers.proofs.Complement.{signed-back, unsigned-below}
 use Rattle.packets.proofs.Checks.{acknowledged, asked}
 
--- the last two bytes of what was closed, and the rest
-pub rest-of : (head : List ℕ) → take (length (withCrc head) - 2) (withCrc head) ≡ head
+closed-length : (head : List ℕ) → length (withCrc head) ≡ length head + 2
 unfolding withCrc
-rest-of head =
-    let n : length (head ++ highFirst 2 (crcOf head)) ≡ length head + 2 =
-    length-append head (highFirst 2 (crcOf head)) ∙ ap (λ (k : ℕ). length head + k) (high-first-length 2 (crcOf head)) in
-    take-at head (highFirst 2 (crcOf head)) (length (head ++ highFirst 2 (crcOf head)) - 2) (omega arith)
+closed-length head =
+    length-append head (highFirst 2 (crcOf head)) ∙ ap (λ (k : ℕ). length head + k) (high-first-length 2 (crcOf head))
 
-pub last-of : (head : List ℕ) → drop (length (withCrc head) - 2) (withCrc head) ≡ highFirst 2 (crcOf head)
+-- the last two bytes of what was closed, and the rest
+rest-of : (head : List ℕ) → take (length (withCrc head) - 2) (withCrc head) ≡ head
 unfolding withCrc
-last-of head =
-    let n : length (head ++ highFirst 2 (crcOf head)) ≡ length head + 2 =
-    length-append head (highFirst 2 (crcOf head)) ∙ ap (λ (k : ℕ). length head + k) (high-first-length 2 (crcOf head)) in
-    drop-at head (highFirst 2 (crcOf head)) (length (head ++ highFirst 2 (crcOf head)) - 2) (omega arith)
+rest-of head = let n = closed-length head in take-at head (highFirst 2 (crcOf head)) (length (withCrc head) - 2) (omega arith)
+
+last-of : (head : List ℕ) → drop (length (withCrc head) - 2) (withCrc head) ≡ highFirst 2 (crcOf head)
+unfolding withCrc
+last-of head = let n = closed-length head in drop-at head (highFirst 2 (crcOf head)) (length (withCrc head) - 2) (omega arith)
 
 pub closed-right : (head : List ℕ) → crcRight (withCrc head) ≡ true
 unfolding crcRight numberAt

@@ -1,5 +1,4 @@
 -- The bytes that an input holds, and the list that a packet sends.
--- Assumes nothing.
 use Prim.Native.Nat.{ℕ, _≤_, _<_}
 use mathlib.Core.Path.{_≡_, refl}
 use mathlib.Core.List.{List, [], _∷_, _++_}
@@ -8,8 +7,7 @@ use native.Mathlib.Numerals.{add-one}
 use lib.ListN.{length, length-take, length-set}
 use lib.Seq.{take-suc-set, take-append-seam}
 use Rattle.pipe.specs.declared.Input.{Input}
-use Rattle.pipe.specs.Input.{heldIn, sentPacket, sentBytes, emptyInput, gathers, pipeByte, pipeTimeout}
-use Rattle.pipe.proofs.Cases.{byte-cases, timeout-cases}
+use Rattle.pipe.specs.Input.{heldIn, sentPacket, sentBytes, emptyInput, gathers}
 
 -- an input as the code can hold it within the bounds: an array of eight, and at most 7 gathered
 pub record Whole (i : Input) : Type 0 where
@@ -47,12 +45,3 @@ whole-empty n = record { long = refl; few = omega arith }
 pub whole-gathers : {i : Input} (b : ℕ) → i .gathered < 7 → Whole i → Whole (gathers i b)
 unfolding gathers
 whole-gathers {i} b l w = record { long = rw length-set (w .long); few = omega arith }
-
--- a byte keeps an input whole
-pub whole-byte : {i : Input} (b : ℕ) → Whole i → Whole (pipeByte i b .input)
-whole-byte {i} b w =
-    byte-cases (λ p. Whole (p .input)) i b (λ l. whole-gathers b l w) (λ l. whole-empty (i .timeouts))
-
--- a timeout keeps an input whole
-pub whole-timeout : {i : Input} → Whole i → Whole (pipeTimeout i .input)
-whole-timeout {i} w = timeout-cases (λ p. Whole (p .input)) i (λ l. w) (λ l. whole-empty _)

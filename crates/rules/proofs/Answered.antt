@@ -1,16 +1,19 @@
--- Demand 1: every call is answered, or refused by the first of its rows that holds, which is the lowest, with all as it came.
+-- Demand 1: every call is answered, or refused by the first of its rows that holds, which is the lowest, with all as it came; and what
+-- an answered call gives.
 -- Assumes nothing.
 use Prim.Native.Nat.{ℕ}
 use mathlib.Core.Path.{_≡_, refl, sym, ap, _∙_}
-use mathlib.Core.Bool.{true}
+use mathlib.Core.Bool.{true, false}
+use mathlib.Core.List.{[]}
 use Rattle.rows.specs.Rows.{First, Clear, refused, gave, rising}
-use Rattle.rows.proofs.Bool.{never}
+use Rattle.rows.proofs.Bool.{never, not-true}
 use Rattle.rows.proofs.Laws.{never-both, first-one, refused-same, gave-not}
 use Rattle.rows.proofs.Lowest.{lowest}
-use Rattle.rules.specs.Refusals.{Given}
-use Rattle.rules.specs.Families.{command, dataIn, dataOut, status, wordLent}
-use Rattle.rules.specs.World.{World, Call, power, packet, deadline, put, word, pipe, samples, roomOf, Stepped, stepped, isAnswered, step, rowsOf}
+use Rattle.rules.specs.Refusals.{Given, done}
+use Rattle.rules.specs.Families.{command, dataIn, dataOut, status, wordLent, byte, timeout, wordOf, pipeOf}
+use Rattle.rules.specs.World.{World, Call, power, packet, deadline, put, word, pipe, samples, roomOf, Told, Stepped, stepped, isAnswered, isRefused, step, rowsOf}
 use Rattle.rules.specs.Demands.{AlwaysAnswered, LowestFirst, RefusedUnchanged}
+use Rattle.rules.specs.Said.{givesNumber, givesBytes, SaysDone}
 use Rattle.rules.proofs.Happens.{Happens, by-rows, by-power, by-empty, by-damage, by-acknowledgement, by-check, by-command, by-deadline, by-put, by-word, by-pipe, by-samples, happens}
 
 -- how a call ends: refused by its first row that holds, or answered
@@ -82,3 +85,31 @@ lowest-first w c n =
     let low = lowest (rowsOf w c) (rows-rise w c) n in
     let first = always-answered w c n in
     (λ s. low .0 (first .0 s), λ h. first .1 (low .1 h))
+
+-- ---- what an answered call gives
+
+Gives : Call → Told → Type 0
+Gives c t = (givesNumber c ≡ false → t .said ≡ gave done) × (givesBytes c ≡ false → t .bytes ≡ [])
+
+gives : {w : World} {c : Call} {s : Stepped} → Happens w c s → isRefused (s .told .said) ≡ false → Gives c (s .told)
+unfolding Gives wordOf pipeOf
+gives (by-rows c n f) a = never refl a
+gives (by-power k) a = (λ e. refl, λ e. refl)
+gives (by-empty b room k e) a = (λ z. never refl z, λ z. never refl z)
+gives (by-damage b room first n k e) a = (λ z. never refl z, λ z. never refl z)
+gives (by-acknowledgement b room first one k e) a = (λ z. never refl z, λ z. never refl z)
+gives (by-check b room c n k e f) a = (λ z. never refl z, λ z. never refl z)
+gives (by-command b room c k e q) a = (λ z. never refl z, λ z. never refl z)
+gives (by-deadline k) a = (λ e. refl, λ e. refl)
+gives (by-put s b k) a = (λ e. refl, λ e. refl)
+gives (by-word (command x) k) a = (λ e. refl, λ e. refl)
+gives (by-word (dataIn x) k) a = (λ e. refl, λ e. refl)
+gives (by-word dataOut k) a = (λ z. never refl z, λ e. refl)
+gives (by-word status k) a = (λ z. never refl z, λ e. refl)
+gives (by-pipe (byte b) k) a = (λ e. refl, λ z. never refl z)
+gives (by-pipe timeout k) a = (λ e. refl, λ z. never refl z)
+gives (by-samples n xs k) a = (λ e. refl, λ z. never refl z)
+
+pub says-done : SaysDone
+unfolding Gives
+says-done w c a = gives (happens w c) (not-true a)

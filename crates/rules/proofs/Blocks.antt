@@ -14,7 +14,7 @@ use Rattle.rules.specs.declared.Pod.{Pod}
 use Rattle.rules.specs.State.{Lent, ringOf, storeIn, freshPod}
 use Rattle.rules.specs.Obey.{initialisedPod, doneBy, dropFrom}
 use Rattle.rules.specs.World.{World, put, rowsOf, powered}
-use Rattle.rules.specs.History.{Event, acknowledges, sameStore, Waiting, nothingWaits, blocksBy, waitingBy}
+use Rattle.rules.specs.History.{Event, hearsAcknowledgement, sameStore, Waiting, nothingWaits, blocksBy, waitingBy}
 use Rattle.rules.specs.Demands.{BlocksAreHistory}
 use Rattle.rules.proofs.Happens.{putting}
 use Rattle.rules.proofs.Eventful.{Eventful, quiet, anew, initialised, slept, updated, wrote, began, closed, acknowledged, shelved, spoken, moved}
@@ -47,7 +47,7 @@ blocks-put s r b w k =
 
 -- an acknowledgement takes the first away of the store that it acknowledges
 blocks-settled : (s : Store) {p q : Pod} {first : ℕ} {one : Bool} {x : Exchange} → Settles p first one x q → (l : List ℕ)
-    → blocksIn (capacityOf s) (ringOf s q) l ≡ blocksBy s (acknowledges first one) x (blocksIn (capacityOf s) (ringOf s p) l)
+    → blocksIn (capacityOf s) (ringOf s q) l ≡ blocksBy s (hearsAcknowledgement first one) x (blocksIn (capacityOf s) (ringOf s p) l)
 unfolding blocksBy dropFrom
 blocks-settled s (keeps h) l = rw (h s)
 blocks-settled s {p} (drops r a b h) l =

@@ -27,7 +27,7 @@ use Rattle.rules.specs.Obey.{shut, checksOf, doneBy, acknowledgedOf}
 use Rattle.rules.specs.Families.{WordCall, PipeCall, pipeOf}
 use Rattle.rules.specs.Calls.{replyBytes, spokenBytes, answered}
 use Rattle.rules.specs.World.{World, world, Call, packet, put, word, pipe, Stepped, rowsOf}
-use Rattle.rules.specs.History.{Event, nothing, begins, sleeps, updates, writes, opens, closes, acknowledges, puts, words, pipes, obeyedAs, succeeded, eventOf}
+use Rattle.rules.specs.History.{Event, nothing, begins, sleeps, updates, writes, opensExchange, closesExchange, hearsAcknowledgement, puts, words, pipes, obeyedAs, succeeded, eventOf}
 use Rattle.rules.proofs.Happens.{Happens, by-rows, by-power, by-empty, by-damage, by-acknowledgement, by-check, by-command, by-deadline, by-put, by-word, by-pipe, by-samples, powering, obeying, putting, wording, piping}
 use Rattle.rules.proofs.Succeeded.{one-succeeds, error-fails, room-at}
 
@@ -53,10 +53,10 @@ pub data Eventful (w : World) : Event → World → Type 0 where
   updated : (f : Fields) → Eventful w (updates f) (obeyedIn (Update f) w)
   wrote : (id : ℕ) (v : ℤ) → writeAllowed (w .pod .params) id v ≡ true → Eventful w (writes id v) (obeyedIn (Write id v) w)
   -- a type 2 command: nothing else changes
-  began : (x : Exchange) → w .pod .initialised ≡ true → Waits x (w .pod) → Eventful w (opens x) (world (withExchange x (w .pod)) (w .lent))
-  closed : Eventful w closes (world (shut (w .pod)) (w .lent))
+  began : (x : Exchange) → w .pod .initialised ≡ true → Waits x (w .pod) → Eventful w (opensExchange x) (world (withExchange x (w .pod)) (w .lent))
+  closed : Eventful w closesExchange (world (shut (w .pod)) (w .lent))
   acknowledged : (first : ℕ) (one : Bool) → soundPod (w .pod) ≡ true
-      → Eventful w (acknowledges first one) (world (acknowledgedOf first one (w .pod)) (w .lent))
+      → Eventful w (hearsAcknowledgement first one) (world (acknowledgedOf first one (w .pod)) (w .lent))
   shelved : (s : Store) (b : List ℕ) → Clear (rowsOf w (put s b)) → Eventful w (puts s b) (putting s b w .world)
   spoken : (c : WordCall) → Clear (rowsOf w (word c)) → Eventful w (words c) (wording c w .world)
   moved : (c : PipeCall) → Clear (rowsOf w (pipe c)) → Eventful w (pipes c (sentBytes (pipeOf c (w .pod .pipe) .lent))) (piping c w .world)

@@ -20,7 +20,7 @@ use Rattle.rules.specs.declared.Pod.{Pod}
 use Rattle.rules.specs.State.{Lent, withRing, withRemaining, ringOf, remainingOf, freshPod}
 use Rattle.rules.specs.Obey.{initialisedPod, doneBy, dropFrom, acknowledgedOf}
 use Rattle.rules.specs.World.{World, Call, final, powered}
-use Rattle.rules.specs.History.{Event, acknowledges, events, fold, awakeBy, exchangeBy, sameStore, acknowledged as acknowledgedBy, lessBy, fieldsBy, Fielded, freshFielded, fieldedBy}
+use Rattle.rules.specs.History.{Event, hearsAcknowledgement, events, fold, awakeBy, exchangeBy, sameStore, acknowledged as acknowledgedBy, lessBy, fieldsBy, Fielded, freshFielded, fieldedBy}
 use Rattle.rules.specs.Replies.{awakeFrom}
 use Rattle.rules.proofs.Eventful.{Eventful, quiet, anew, initialised, slept, updated, wrote, began, closed, acknowledged, shelved, spoken, moved, Waits}
 use Rattle.rules.proofs.Histories.{Keeps, history, powered-fresh}
@@ -100,7 +100,7 @@ none-less : (first : ℕ) (one : Bool) (x : Exchange) (f : Fields) → ((r : Sto
 none-less first one x f h = rw (h Priority, h Ordinary)
 
 settled-fields : {p q : Pod} {first : ℕ} {one : Bool} {x : Exchange} → Settles p first one x q
-    → q .fields ≡ fieldsBy (acknowledges first one) x (p .fields)
+    → q .fields ≡ fieldsBy (hearsAcknowledgement first one) x (p .fields)
 unfolding fieldsBy dropFrom
 settled-fields {p} {q} {first} {one} {x} (keeps h) = none-less first one x (p .fields) h
 settled-fields {p} {q} {first} {one} {x} (drops s a b h) = rw (a, b) (less-one s first one x (p .fields) h)

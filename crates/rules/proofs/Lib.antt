@@ -31,13 +31,11 @@ pub mod Accepted
 pub mod NoTrace
 pub mod Sleepers
 pub mod Asleep
-pub mod Shown
-pub mod Edges
-pub mod NotEmpty
 pub mod Holding
 pub mod Gathering
 pub mod LoadWhole
 pub mod LoadCut
 pub mod PortOnly
 pub mod TransferOnly
+pub mod PortHistory
 pub mod Whole

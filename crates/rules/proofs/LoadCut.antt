@@ -20,7 +20,8 @@ use Rattle.rules.specs.History.{Event, eventOf, events}
 use Rattle.rules.specs.Transfers.{cuts, cutsLoad, leftOpen, writtenIn, othersIn}
 use Rattle.rules.specs.Demands.{LoadCut}
 use Rattle.rules.proofs.Happens.{happens, wording}
-use Rattle.rules.proofs.WordsAlike.{cameOf, none-came, obeyed-none, given-none}
+use Rattle.tables.proofs.Stale.{gathered as cameOf}
+use Rattle.rules.proofs.WordsAlike.{none-came, obeyed-none, given-none}
 use Rattle.rules.proofs.Twins.{twin, Same, same-run}
 use Rattle.rules.proofs.Between.{word-fit, word-event, Which, says, other, which, Ported, apart, ends, ported}
 use Rattle.rules.proofs.Holding.{hold, beside, held, other-held}

@@ -4,21 +4,19 @@ use Prim.Native.Nat.{ℕ, _+_, _≤_}
 use native.Mathlib.Nat.{zero-add}
 use native.Mathlib.Omega.{arith}
 use mathlib.Core.Path.{_≡_, refl, sym, ap, _∙_}
-use mathlib.Core.Bool.{Bool, true, or-true, or-false}
+use mathlib.Core.Bool.{or-true, or-false}
 use mathlib.Core.List.{List, [], _∷_, _++_}
 use lib.ListN.{length, set, take, drop, length-append}
 use lib.Seq.{sets, sets-eq, length-sets, take-at, take-all}
 use Rattle.rows.proofs.Bool.{split}
 use Rattle.tables.specs.declared.Header.{Header}
 use Rattle.tables.specs.declared.Transfer.the-variants.{Idle}
-use Rattle.orders.specs.declared.Order.the-variants.{Writing}
 use Rattle.tables.specs.Tables.{wordsOf}
 use Rattle.tables.specs.Bounds.{soundTransfer}
 use Rattle.tables.specs.Port.{Desk, Tabled, tabled, withTransfer, commandOf, orderObeyed, tablesAfter, loadRight, loadJudged, wordTaken, dataInOf}
 use Rattle.tables.proofs.Lists.{sets-snoc}
 use Rattle.tables.proofs.Limits.{sound-transfer, LoadIn, load-in}
 use Rattle.tables.proofs.Loading.{load-last, judged-right, judged-wrong}
-use Rattle.tables.proofs.Obeying.{obeyed}
 use Rattle.rules.specs.State.{deskIn, soundPod}
 use Rattle.rules.specs.Families.{command, dataIn, wordOf}
 use Rattle.rules.specs.World.{World, Call, word, Stepped, next, final}
@@ -26,7 +24,7 @@ use Rattle.rules.specs.Transfers.{writtenIn, othersIn, opened, loaded, L
 use Rattle.rules.specs.Demands.{LoadWhole}
 use Rattle.rules.proofs.Inside.{pod-in}
 use Rattle.rules.proofs.Sound.{sound-next}
-use Rattle.rules.proofs.WordsAlike.{right-same, stored-same}
+use Rattle.tables.proofs.Stale.{right-same, stored-same}
 use Rattle.rules.proofs.Between.{final-then, word-fit}
 use Rattle.rules.proofs.Gathering.{laid, Open, along, fit-along, passes}
 

@@ -3,7 +3,7 @@
 use Prim.Native.Nat.{ℕ, _+_, _-_}
 use mathlib.Core.Path.{_≡_, refl, sym, ap, _∙_}
 use mathlib.Core.Bool.{Bool, false, _||_, cond, or-true, or-false, or-assoc}
-use mathlib.Core.List.{List, [], _∷_}
+use mathlib.Core.List.{[]}
 use lib.Dec.{ltb}
 use lib.ListN.{set}
 use Rattle.rows.specs.Rows.{gave}
@@ -17,18 +17,16 @@ use Rattle.tables.specs.declared.Transfer.the-variants.{Idle, Address, Load, Re
 use Rattle.tables.specs.Tables.{readPlace}
 use Rattle.orders.specs.Command.{orderHeard}
 use Rattle.tables.specs.Port.{Desk, Tabled, tabled, fits, beginsAt, isOpen, startWords, closeOf, wrongWay, readOpenedAt, readOpened, restarted, orderObeyed, commandOf, loadRight, loadJudged, loadOf, wordTaken, dataInOf, wordGiven, dataOutOf, statusOf}
-use Rattle.rules.specs.declared.Pod.{Pod}
 use Rattle.rules.specs.State.{freshPod, deskIn}
 use Rattle.rules.specs.Obey.{initialisedPod, doneBy}
 use Rattle.rules.specs.Families.{WordCall, command, dataIn, dataOut, status, wordOf}
 use Rattle.rules.specs.Refusals.{reads}
-use Rattle.rules.specs.World.{World, Call, word, Stepped, isRefused, told, next, final, powered}
+use Rattle.rules.specs.World.{World, word, Stepped, isRefused, told}
 use Rattle.rules.specs.History.{Event}
-use Rattle.rules.specs.Transfers.{notTaken, errsIn, errsOut, wordErrs, errorBy, errorFrom}
-use Rattle.rules.specs.Demands.{MessageError, ErrorIsHistory, StatusWordShows}
+use Rattle.rules.specs.Transfers.{notTaken, errsIn, errsOut, wordErrs, errorBy}
+use Rattle.rules.specs.Demands.{MessageError, StatusWordShows}
 use Rattle.rules.proofs.Happens.{Happens, by-rows, by-word, happens}
 use Rattle.rules.proofs.Eventful.{Eventful, quiet, anew, initialised, slept, updated, wrote, began, closed, acknowledged, shelved, spoken, moved, eventful}
-use Rattle.rules.proofs.Histories.{powered-fresh}
 use Rattle.rules.proofs.Untouched.{acknowledged-untouched}
 
 -- ---- a table word
@@ -71,7 +69,7 @@ taken-errs Address x s = refl
 taken-errs (Load h k) x s = load-errs h k x s
 taken-errs (Read h k at) x s = refl
 
-word-errs : (c : WordCall) (on : Bool) (w : Words) (d : Desk) → wordOf c on w d .pod .error ≡ wordErrs c on w (d .load) (w .error)
+pub word-errs : (c : WordCall) (on : Bool) (w : Words) (d : Desk) → wordOf c on w d .pod .error ≡ wordErrs c on w (d .load) (w .error)
 unfolding wordOf wordErrs commandOf dataInOf dataOutOf wordGiven wrongWay statusOf
 word-errs (command x) on w d =
     let o = orderHeard on x in
@@ -106,16 +104,6 @@ event-errs w _ _ (moved c k) = refl
 
 pub message-error : MessageError
 message-error w c = event-errs w _ _ (eventful (happens w c))
-
-errs-from : (cs : List Call) (w : World) → final w cs .pod .words .error ≡ errorFrom (w .pod .words .error) w cs
-unfolding final errorFrom
-errs-from [] w = refl
-errs-from (c ∷ cs) w = errs-from cs (next w c) ∙ ap (λ (e : Bool). errorFrom e (next w c) cs) (message-error w c)
-
-pub error-is-history : ErrorIsHistory
-unfolding freshPod startWords
-error-is-history l cs =
-    errs-from cs (powered l) ∙ ap (λ (p : Pod). errorFrom (p .words .error) (powered l) cs) (powered-fresh l)
 
 -- ---- the status word
 

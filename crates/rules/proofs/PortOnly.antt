@@ -2,21 +2,20 @@
 -- Assumes nothing.
 use Prim.Native.Nat.{ℕ, _+_, _-_}
 use mathlib.Core.Path.{_≡_, refl}
-use mathlib.Core.Bool.{Bool, true, cond}
+use mathlib.Core.Bool.{Bool}
 use lib.Dec.{ltb}
 use lib.ListN.{set}
 use Rattle.rows.specs.Rows.{Clear}
 use Rattle.rows.proofs.Bool.{split}
 use Rattle.rows.proofs.Laws.{never-both}
 use Rattle.tables.specs.declared.Words.{Words}
-use Rattle.tables.specs.declared.Header.{Header}
 use Rattle.orders.specs.declared.Order.{Order}
 use Rattle.orders.specs.declared.Order.the-variants.{Other, Stop, Restart, Next, Writing, Reading}
 use Rattle.tables.specs.declared.Transfer.{Transfer}
 use Rattle.tables.specs.declared.Transfer.the-variants.{Idle, Address, Load, Read}
 use Rattle.tables.specs.Tables.{readPlace}
 use Rattle.orders.specs.Command.{orderHeard}
-use Rattle.tables.specs.Port.{Desk, Tabled, tabled, startWords, closeOf, beginsAt, fits, readOpenedAt, readOpened, restarted, orderObeyed, commandOf, wrongWay, loadRight, loadJudged, loadOf, wordTaken, dataInOf, wordGiven, dataOutOf, statusOf}
+use Rattle.tables.specs.Port.{Desk, tabled, closeOf, beginsAt, fits, readOpenedAt, readOpened, restarted, orderObeyed, commandOf, wrongWay, loadRight, loadJudged, loadOf, wordTaken, dataInOf, wordGiven, dataOutOf, statusOf}
 use Rattle.rules.specs.State.{freshPod, deskIn}
 use Rattle.rules.specs.Obey.{initialisedPod, doneBy}
 use Rattle.rules.specs.Families.{WordCall, command, dataIn, dataOut, status, wordOf}
@@ -81,7 +80,7 @@ given-out Address w d = (refl, refl)
 given-out (Load h k) w d = (refl, refl)
 given-out (Read h k at) w d = (refl, refl)
 
-word-places : (c : WordCall) (on : Bool) (w : Words) (d : Desk)
+pub word-places : (c : WordCall) (on : Bool) (w : Words) (d : Desk)
     → (wordOf c on w d .pod .places ≡ wordPlaces c on w) × (wordOf c on w d .pod .given ≡ wordGives c on w)
 unfolding wordOf wordPlaces wordGives commandOf dataInOf dataOutOf statusOf
 word-places (command x) on w d = ordered w on x (orderHeard on x)

@@ -15,14 +15,13 @@ use Rattle.tables.specs.declared.Header.{Header}
 use Rattle.tables.specs.declared.Places.{Places}
 use Rattle.tables.specs.declared.Words.{Words}
 use Rattle.tables.specs.declared.Answered.{Answered}
-use Rattle.orders.specs.declared.Order.the-variants.{Reading}
 use Rattle.tables.specs.declared.Given.the-variants.{Nowhere}
 use Rattle.tables.specs.declared.Transfer.the-variants.{Idle, Read}
 use Rattle.tables.specs.Tables.{Three, tablesSized, wordsOf, withReadPlace}
-use Rattle.tables.specs.Port.{Desk, Tabled, tabled, withTransfer, withPlaces, withGiven, dataCount, closeOf, readOpened, readOpenedAt, orderObeyed, tablesAfter, commandOf, readWord, readNext, wordGiven, statusOf}
-use Rattle.tables.proofs.Obeying.{obeyed, given-by}
-use Rattle.tables.proofs.Reading.{read-taken, read-first, read-second, read-third, read-data}
-use Rattle.rules.specs.State.{soundPod, deskIn, withWords, withDesk}
+use Rattle.tables.specs.Port.{Desk, withTransfer, withPlaces, withGiven, dataCount, closeOf, readOpened, readOpenedAt, orderObeyed, tablesAfter, commandOf, readWord, readNext, wordGiven, statusOf}
+use Rattle.tables.proofs.Obeying.{given-by}
+use Rattle.tables.proofs.Reading.{read-first, read-second, read-third, read-data}
+use Rattle.rules.specs.State.{soundPod, deskIn, withWords}
 use Rattle.rules.specs.Refusals.{done, reads}
 use Rattle.rules.specs.Families.{WordCall, command, dataIn, dataOut, status, wordOf}
 use Rattle.rules.specs.World.{World, Call, word, told, Stepped, stepped, step, next, final}

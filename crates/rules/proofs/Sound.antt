@@ -4,7 +4,6 @@ use Prim.Native.Nat.{ℕ, _-_}
 use native.Mathlib.Omega.{arith}
 use mathlib.Core.Path.{_≡_, refl, ap, _∙_}
 use mathlib.Core.Bool.{Bool, true, _||_}
-use mathlib.Core.List.{List, [], _∷_}
 use lib.Dec.{eqb}
 use lib.IntN.{ℤ}
 use Rattle.rows.specs.Rows.{Clear, none, past}
@@ -37,7 +36,7 @@ use Rattle.rules.specs.State.{Lent, deskIn, withWords, withRemaining, ri
 use Rattle.rules.specs.Obey.{shut, checksOf, doneBy, initialisedPod, matches, dropFrom, settled, acknowledgedOf}
 use Rattle.rules.specs.Families.{WordCall, command as commands, dataIn, dataOut, status, wordOf, PipeCall, byte, timeout, pipeOf}
 use Rattle.rules.specs.Calls.{answered}
-use Rattle.rules.specs.World.{World, world, Call, power, Stepped, next, final, powered}
+use Rattle.rules.specs.World.{World, world, Call, power, Stepped, next, powered}
 use Rattle.rules.specs.Demands.{KeptSound}
 use Rattle.rules.proofs.Happens.{Happens, by-rows, by-power, by-empty, by-damage, by-acknowledgement, by-check, by-command, by-deadline, by-put, by-word, by-pipe, by-samples, checks-shut, happens}
 use Rattle.rules.proofs.Fits.{put-fits}
@@ -134,11 +133,6 @@ step-in (by-samples k xs q) h = h
 -- so the test of the bounds passes after every call that it passed before
 pub sound-next : (w : World) (c : Call) → soundPod (w .pod) ≡ true → soundPod (next w c .pod) ≡ true
 sound-next w c h = in-pod (step-in (happens w c) (pod-in (w .pod) h))
-
-pub sound-final : (cs : List Call) (w : World) → soundPod (w .pod) ≡ true → soundPod (final w cs .pod) ≡ true
-unfolding final
-sound-final [] w h = h
-sound-final (c ∷ cs) w h = sound-final cs (next w c) (sound-next w c h)
 
 -- from power on the pod is within its bounds, whatever is lent
 pub powered-sound : (l : Lent) → soundPod (powered l .pod) ≡ true

@@ -2,8 +2,6 @@
 -- Assumes nothing.
 use mathlib.Core.Path.{_≡_, refl}
 use mathlib.Core.Bool.{Bool, true, _&&_, cond, false≢true}
-use mathlib.Core.List.{List}
-use Prim.Native.Nat.{ℕ}
 use Rattle.blocks.specs.declared.Store.{Store}
 use Rattle.blocks.specs.declared.Store.the-variants.{Priority, Ordinary}
 use Rattle.rules.specs.State.{Lent, ofStore, storeIn, withStore}
@@ -13,10 +11,6 @@ use Rattle.rules.specs.History.{sameStore}
 pub store-same : (s : Store) (l : Lent) → withStore s (storeIn s l) l ≡ l
 store-same Priority l = refl
 store-same Ordinary l = refl
-
-pub store-new : (s : Store) (x : List ℕ) (l : Lent) → storeIn s (withStore s x l) ≡ x
-store-new Priority x l = refl
-store-new Ordinary x l = refl
 
 -- two things that are one
 pub of-both : {A : Type 0} (s : Store) (a : A) → ofStore s a a ≡ a

@@ -3,31 +3,21 @@
 use Prim.Native.Nat.{ℕ, suc, _≤_, _<_}
 use native.Mathlib.Omega.{arith}
 use mathlib.Core.Path.{_≡_, refl, _∙_}
-use mathlib.Core.Bool.{true, false, false≢true}
+use mathlib.Core.Bool.{true, false}
 use mathlib.Core.List.{List, [], _∷_, _++_}
 use lib.Dec.{eqb}
 use lib.ListN.{length, getD, set}
 use lib.Seq.{sets, getD-set-other}
 use borrow.Author.Tests.{lt-ltb}
-use Rattle.rows.specs.Rows.{Said, refused, gave, Clear}
+use Rattle.rows.specs.Rows.{Clear}
 use Rattle.rows.proofs.Laws.{clear-head}
 use borrow.Author.Tests.{ltb-false}
 use Rattle.crc.specs.Crc.{crcOf}
 use Rattle.numbers.specs.Numbers.{highFirst}
 use Rattle.packets.specs.Answers.{withCrc, answerOf, errorAnswer}
 use Rattle.packets.proofs.Laws.{length-of-answer}
-use Rattle.rules.specs.Refusals.{Given}
-use Rattle.rules.specs.World.{World, packet, Told, answering, isRefused, rowsOf}
+use Rattle.rules.specs.World.{World, packet, answering, rowsOf}
 use Rattle.rules.specs.History.{secondIs, succeeded, errored}
-
--- an answer is no refusal
-pub answer-not-refused : (k : ℕ) (s : Said Given) (l : List ℕ) → secondIs k s l ≡ true → isRefused s ≡ false
-answer-not-refused k (refused n) l h = absurd (false≢true h)
-answer-not-refused k (gave g) l h = refl
-
-pub succeeded-not-refused : (t : Told) → succeeded t ≡ true → isRefused (t .said) ≡ false
-unfolding succeeded
-succeeded-not-refused t h = answer-not-refused 0x01 (t .said) (t .bytes) h
 
 -- a run of stores leaves what stands before it
 pub before-run : (vs l : List ℕ) (i k : ℕ) → k < i → getD (sets l i vs) k 0 ≡ getD l k 0
@@ -53,10 +43,6 @@ second-is k room first second body h =
 pub error-fails : (room : List ℕ) (first n : ℕ) → 260 ≤ length room → succeeded (answering room (errorAnswer first n)) ≡ false
 unfolding succeeded errorAnswer
 error-fails room first n h = second-is 0x01 room first 0x09 (n ∷ []) h
-
-pub error-errs : (room : List ℕ) (first n : ℕ) → 260 ≤ length room → errored (answering room (errorAnswer first n)) ≡ true
-unfolding errored errorAnswer
-error-errs room first n h = second-is 0x09 room first 0x09 (n ∷ []) h
 
 pub one-succeeds : (room : List ℕ) (first : ℕ) (body : List ℕ) → 260 ≤ length room → succeeded (answering room (answerOf first 0x01 body)) ≡ true
 unfolding succeeded

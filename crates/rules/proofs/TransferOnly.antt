@@ -2,7 +2,7 @@
 -- Assumes nothing.
 use Prim.Native.Nat.{ℕ, _+_, _-_}
 use mathlib.Core.Path.{_≡_, refl}
-use mathlib.Core.Bool.{Bool, true, false, cond}
+use mathlib.Core.Bool.{Bool, false}
 use mathlib.Core.List.{[]}
 use lib.Dec.{ltb}
 use lib.ListN.{set}
@@ -10,18 +10,17 @@ use Rattle.rows.specs.Rows.{Clear, gave}
 use Rattle.rows.proofs.Bool.{split, never, not-true}
 use Rattle.rows.proofs.Laws.{never-both}
 use Rattle.tables.specs.declared.Words.{Words}
-use Rattle.tables.specs.declared.Header.{Header}
 use Rattle.orders.specs.declared.Order.{Order}
 use Rattle.orders.specs.declared.Order.the-variants.{Other, Stop, Restart, Next, Writing, Reading}
 use Rattle.tables.specs.declared.Transfer.{Transfer}
 use Rattle.tables.specs.declared.Transfer.the-variants.{Idle, Address, Load, Read}
 use Rattle.tables.specs.Tables.{Three, readPlace}
 use Rattle.orders.specs.Command.{orderHeard}
-use Rattle.tables.specs.Port.{Desk, Tabled, tabled, closeOf, beginsAt, fits, readOpenedAt, readOpened, restarted, orderObeyed, commandOf, wrongWay, loadRight, loadJudged, loadOf, wordTaken, dataInOf, readNext, wordGiven, dataOutOf, statusOf}
+use Rattle.tables.specs.Port.{Desk, tabled, closeOf, beginsAt, fits, readOpenedAt, readOpened, restarted, orderObeyed, commandOf, wrongWay, loadRight, loadJudged, loadOf, wordTaken, dataInOf, readNext, wordGiven, dataOutOf, statusOf}
 use Rattle.rules.specs.State.{deskIn}
 use Rattle.rules.specs.Refusals.{reads}
 use Rattle.rules.specs.Families.{WordCall, command, dataIn, dataOut, status, wordOf}
-use Rattle.rules.specs.World.{World, word, Stepped, told, isRefused, rowsOf, next}
+use Rattle.rules.specs.World.{World, word, Stepped, told, isRefused, rowsOf}
 use Rattle.rules.specs.Port.{opensAfter, opensIn, opensOut, wordOpens, isRead}
 use Rattle.rules.specs.Demands.{TransferOnly, ReadsZero}
 use Rattle.rules.proofs.Happens.{Happens, by-rows, by-word, happens}
@@ -55,7 +54,7 @@ given-out Address w s = refl
 given-out (Load h k) w s = refl
 given-out (Read h k at) w s = refl
 
-word-opens : (c : WordCall) (on : Bool) (w : Words) (d : Desk) → wordOf c on w d .pod .transfer ≡ wordOpens c on w
+pub word-opens : (c : WordCall) (on : Bool) (w : Words) (d : Desk) → wordOf c on w d .pod .transfer ≡ wordOpens c on w
 unfolding wordOf wordOpens commandOf dataInOf dataOutOf statusOf
 word-opens (command x) on w d = ordered (orderHeard on x) w
 word-opens (dataIn x) on w d = taken (w .transfer) x w d

@@ -38,7 +38,8 @@ use Rattle.rules.proofs.Stores.{store-same}
 use Rattle.rules.proofs.Happens.{putting, wording}
 use Rattle.rules.proofs.Inside.{pod-in, ring-in}
 use Rattle.rules.proofs.Fits.{PutFits, put-fits}
-use Rattle.rules.proofs.WordsAlike.{cameOf, Gathered, none-came, SameDesk, same-desk, words-alike}
+use Rattle.tables.proofs.Stale.{gathered as cameOf}
+use Rattle.rules.proofs.WordsAlike.{Gathered, none-came, SameDesk, same-desk, words-alike}
 
 -- ---- one store
 

@@ -24,7 +24,8 @@ untouched p = record { initialised = refl; params = refl; words = refl; pipe = r
 drop-untouched : (s : Store) (p : Pod) → Untouched p (dropFrom s p)
 unfolding dropFrom
 drop-untouched s p =
-    by-test (λ q. Untouched p q) (eqb (ringOf s p .waiting) 0 || eqb (remainingOf s (p .fields)) 0) (λ e. untouched p)
+    by-test (λ q. Untouched p q) (eqb (ringOf s p .waiting) 0 || eqb (remainingOf s (p .fields)) 0)
+    (λ e. record { initialised = refl; params = refl; words = refl; pipe = refl })
     (λ e. record { initialised = refl; params = refl; words = refl; pipe = refl })
 
 settled-untouched : (x : Exchange) (p : Pod) → Untouched p (settled x p)

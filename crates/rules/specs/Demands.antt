@@ -3,9 +3,9 @@
 use Prim.Native.Nat.{ℕ, _+_, _<_, min}
 use mathlib.Core.Path.{_≡_}
 use mathlib.Core.Logic.{_↔_}
-use mathlib.Core.Bool.{Bool, true, false, not, _&&_, cond}
+use mathlib.Core.Bool.{true, false, not, _&&_, cond}
 use mathlib.Core.List.{List, [], _∷_, _++_}
-use lib.ListN.{length, getD, replicate}
+use lib.ListN.{getD, replicate}
 use lib.Dec.{eqb}
 use Rattle.rows.specs.Rows.{First, refused, gave, held}
 use Rattle.blocks.specs.declared.Store.{Store}
@@ -21,7 +21,7 @@ use Rattle.tables.specs.declared.Header.{Header}
 use Rattle.tables.specs.declared.Given.the-variants.{Nowhere}
 use Rattle.tables.specs.declared.Transfer.the-variants.{Idle, Read}
 use Rattle.tables.specs.Tables.{starts, withReadPlace}
-use Rattle.tables.specs.Port.{startWords, closeOf, dataCount}
+use Rattle.tables.specs.Port.{startWords, dataCount}
 use Rattle.pipe.specs.declared.Input.{Input}
 use Rattle.pipe.specs.Input.{heldIn}
 use Rattle.frames.specs.Samples.{averagesOf}
@@ -35,9 +35,9 @@ use Rattle.rules.specs.Replies.{awakeFrom, waitingFrom, statusFrom, read
 use Rattle.rules.specs.Checks.{Succeeds, Answers, damaged}
 use Rattle.rules.specs.Judged.{checkOf}
 use Rattle.rules.specs.Numbered.{rowHolds}
-use Rattle.rules.specs.Transfers.{cuts, cutsLoad, writtenIn, othersIn, opened, loaded, Loads, Loading, wordShown, readsIn, Reads, errorBy, errorFrom, tablesBy}
-use Rattle.rules.specs.Port.{portBy, wordPlaces, wordGives, wordOpens, isRead}
-use Rattle.rules.specs.Pairs.{Accepts, ShutsDown, keptIn, seenIn, Sizes, sizesIn, Asleep, Moment, past}
+use Rattle.rules.specs.Transfers.{cuts, cutsLoad, writtenIn, othersIn, opened, loaded, Loads, Loading, wordShown, readsIn, Reads, errorBy, tablesBy}
+use Rattle.rules.specs.Port.{portBy, wordPlaces, wordGives, wordOpens, isRead, ported, portedBy}
+use Rattle.rules.specs.Pairs.{Accepts, ShutsDown, keptIn, seenIn, sizesIn, Asleep, Moment, past}
 
 -- ---- 1. "Any packet, word, sample or state may arrive. Each is answered, or refused by a number in document 01"
 
@@ -121,10 +121,6 @@ MessageError =
     → next w c .pod .words .error
     ≡ errorBy (eventOf c (step w c .told)) (w .pod .initialised) (w .pod .words) (w .lent .load) (w .pod .words .error)
 
--- and so from power on
-abbrev pub ErrorIsHistory : Type 0
-ErrorIsHistory = (l : Lent) (cs : List Call) → final (powered l) cs .pod .words .error ≡ errorFrom false (powered l) cs
-
 -- no other call touches the table port
 abbrev pub PortOnly : Type 0
 PortOnly =
@@ -143,6 +139,12 @@ abbrev pub TransferOnly : Type 0
 TransferOnly =
     (w : World) (c : WordCall) → isAnswered w (word c) ≡ true
     → next w (word c) .pod .words .transfer ≡ wordOpens c (w .pod .initialised) (w .pod .words)
+
+-- and so from power on all of the port, message error too, by the calls and what they told
+abbrev pub PortIsHistory : Type 0
+PortIsHistory =
+    (l : Lent) (cs : List Call)
+    → final (powered l) cs .pod .words ≡ fold portedBy (ported false startWords (l .load)) (events (powered l) cs) .words
 
 -- "A data word .. read with no transfer that way .. reads as 0"
 abbrev pub ReadsZero : Type 0

@@ -1,7 +1,7 @@
 -- What a list of calls and answers alone says of the pod: nothing here looks at its state.
 -- Assumes nothing.
 use Prim.Native.Nat.{ℕ, _+_, _-_}
-use mathlib.Core.Bool.{Bool, true, false, not, _&&_, _||_, cond}
+use mathlib.Core.Bool.{Bool, true, false, _&&_, _||_, cond}
 use mathlib.Core.List.{List, [], _∷_, _++_}
 use lib.Dec.{ltb, eqb}
 use lib.IntN.{ℤ}
@@ -36,11 +36,11 @@ pub data Event : Type 0 where
   updates : Fields → Event
   writes : ℕ → ℤ → Event
   -- a type 2 command answered without error
-  opens : Exchange → Event
+  opensExchange : Exchange → Event
   -- a packet answered with an error, or the deadline
-  closes : Event
+  closesExchange : Event
   -- an acknowledgement: its first byte, and whether it is the 0x01 form
-  acknowledges : ℕ → Bool → Event
+  hearsAcknowledgement : ℕ → Bool → Event
   puts : Store → List ℕ → Event
   words : WordCall → Event
   -- a pipe call, and the bytes that it sent
@@ -49,20 +49,20 @@ pub data Event : Type 0 where
 -- a command answered without error
 abbrev pub obeyedAs : Command → Event
 obeyedAs (command.Initialise f) = begins true f
-obeyedAs command.Status = opens Status
+obeyedAs command.Status = opensExchange Status
 obeyedAs (command.Update f) = updates f
 obeyedAs (command.Write id v) = writes id v
-obeyedAs (command.Read id) = opens Read
-obeyedAs command.Priority = opens (Receive Priority)
-obeyedAs command.Data = opens (Receive Ordinary)
+obeyedAs (command.Read id) = opensExchange Read
+obeyedAs command.Priority = opensExchange (Receive Priority)
+obeyedAs command.Data = opensExchange (Receive Ordinary)
 obeyedAs command.Shutdown = sleeps
 
 -- a packet as it is read; a Bool says whether it was answered without error
 abbrev pub packetAs : Parsed → Bool → Event
 packetAs Nothing ok = nothing
-packetAs (Error first n) ok = closes
-packetAs (Acknowledgement first one) ok = acknowledges first one
-packetAs (Asked c) ok = cond ok (obeyedAs c) closes
+packetAs (Error first n) ok = closesExchange
+packetAs (Acknowledgement first one) ok = hearsAcknowledgement first one
+packetAs (Asked c) ok = cond ok (obeyedAs c) closesExchange
 
 -- a packet was answered, and the second byte of its answer is k
 abbrev pub secondIs : ℕ → Said Given → List ℕ → Bool
@@ -82,7 +82,7 @@ errored t = secondIs 0x09 (t .said) (t .bytes)
 abbrev pub givenAs : Call → Told → Event
 givenAs power t = begins false freshFields
 givenAs (packet b room) t = packetAs (packetRead b) (succeeded t)
-givenAs deadline t = closes
+givenAs deadline t = closesExchange
 givenAs (put s b) t = puts s b
 givenAs (word c) t = words c
 givenAs (pipe c) t = pipes c (t .bytes)
@@ -112,9 +112,9 @@ awakeBy (begins a f) b = a
 awakeBy sleeps b = false
 awakeBy (updates f) b = b
 awakeBy (writes id v) b = b
-awakeBy (opens x) b = b
-awakeBy closes b = b
-awakeBy (acknowledges first one) b = b
+awakeBy (opensExchange x) b = b
+awakeBy closesExchange b = b
+awakeBy (hearsAcknowledgement first one) b = b
 awakeBy (puts s q) b = b
 awakeBy (words c) b = b
 awakeBy (pipes c l) b = b
@@ -128,9 +128,9 @@ exchangeBy (begins a f) x = Closed
 exchangeBy sleeps x = Closed
 exchangeBy (updates f) x = Closed
 exchangeBy (writes id v) x = Closed
-exchangeBy (opens y) x = y
-exchangeBy closes x = Closed
-exchangeBy (acknowledges first one) x = Closed
+exchangeBy (opensExchange y) x = y
+exchangeBy closesExchange x = Closed
+exchangeBy (hearsAcknowledgement first one) x = Closed
 exchangeBy (puts s b) x = x
 exchangeBy (words c) x = x
 exchangeBy (pipes c l) x = x
@@ -167,9 +167,9 @@ blocksBy s (begins a f) x q = []
 blocksBy s sleeps x q = q
 blocksBy s (updates f) x q = q
 blocksBy s (writes id v) x q = q
-blocksBy s (opens y) x q = q
-blocksBy s closes x q = q
-blocksBy s (acknowledges first one) x q = cond (acknowledged s first one x) (drop 1 q) q
+blocksBy s (opensExchange y) x q = q
+blocksBy s closesExchange x q = q
+blocksBy s (hearsAcknowledgement first one) x q = cond (acknowledged s first one x) (drop 1 q) q
 blocksBy s (puts r b) x q = cond (sameStore s r) (q ++ (b ∷ [])) q
 blocksBy s (words c) x q = q
 blocksBy s (pipes c l) x q = q
@@ -196,9 +196,9 @@ fieldsBy (begins a g) x f = g
 fieldsBy sleeps x f = f
 fieldsBy (updates g) x f = g
 fieldsBy (writes id v) x f = f
-fieldsBy (opens y) x f = f
-fieldsBy closes x f = f
-fieldsBy (acknowledges first one) x f = lessBy Priority first one x (lessBy Ordinary first one x f)
+fieldsBy (opensExchange y) x f = f
+fieldsBy closesExchange x f = f
+fieldsBy (hearsAcknowledgement first one) x f = lessBy Priority first one x (lessBy Ordinary first one x f)
 fieldsBy (puts s b) x f = f
 fieldsBy (words c) x f = f
 fieldsBy (pipes c l) x f = f
@@ -214,9 +214,9 @@ valueBy id (begins a f) v = paramRow id .start
 valueBy id sleeps v = v
 valueBy id (updates f) v = v
 valueBy id (writes k u) v = cond (eqb k id) u v
-valueBy id (opens x) v = v
-valueBy id closes v = v
-valueBy id (acknowledges first one) v = v
+valueBy id (opensExchange x) v = v
+valueBy id closesExchange v = v
+valueBy id (hearsAcknowledgement first one) v = v
 valueBy id (puts s b) v = v
 valueBy id (words c) v = v
 valueBy id (pipes c l) v = v
@@ -227,9 +227,9 @@ markBy id (begins a f) m = false
 markBy id sleeps m = m
 markBy id (updates f) m = m
 markBy id (writes k u) m = eqb k id || m
-markBy id (opens x) m = m
-markBy id closes m = m
-markBy id (acknowledges first one) m = m
+markBy id (opensExchange x) m = m
+markBy id closesExchange m = m
+markBy id (hearsAcknowledgement first one) m = m
 markBy id (puts s b) m = m
 markBy id (words c) m = m
 markBy id (pipes c l) m = m
@@ -260,9 +260,9 @@ flowBy (begins a g) f = noFlow
 flowBy sleeps f = f
 flowBy (updates g) f = f
 flowBy (writes id v) f = f
-flowBy (opens x) f = f
-flowBy closes f = f
-flowBy (acknowledges first one) f = f
+flowBy (opensExchange x) f = f
+flowBy closesExchange f = f
+flowBy (hearsAcknowledgement first one) f = f
 flowBy (puts s b) f = f
 flowBy (words c) f = f
 flowBy (pipes c l) f = flowAfter c f
@@ -274,9 +274,9 @@ sentBy (begins a f) s = []
 sentBy sleeps s = s
 sentBy (updates f) s = s
 sentBy (writes id v) s = s
-sentBy (opens x) s = s
-sentBy closes s = s
-sentBy (acknowledges first one) s = s
+sentBy (opensExchange x) s = s
+sentBy closesExchange s = s
+sentBy (hearsAcknowledgement first one) s = s
 sentBy (puts r b) s = s
 sentBy (words c) s = s
 sentBy (pipes c l) s = s ++ l

@@ -4,6 +4,7 @@ pub mod Obey
 pub mod Families
 pub mod Calls
 pub mod World
+pub mod Said
 pub mod History
 pub mod Replies
 pub mod Checks
@@ -14,7 +15,4 @@ pub mod Port
 pub mod Pairs
 pub mod Demands
 pub mod Kept
-pub mod Shown
-pub mod Edges
-pub mod Computed
 pub mod Whole

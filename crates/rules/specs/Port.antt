@@ -1,9 +1,11 @@
 -- The table port after any call: which calls touch it, where each table's next read begins, which address is given, and which transfer is
--- open.
+-- open; and all of it by the calls and what they told alone.
 -- Assumes nothing.
 use Prim.Native.Nat.{ℕ, _+_, _-_}
 use mathlib.Core.Bool.{Bool, true, false, cond}
+use mathlib.Core.List.{List}
 use lib.Dec.{ltb}
+use lib.ListN.{set}
 use Rattle.tables.specs.declared.Words.{Words}
 use Rattle.tables.specs.declared.Places.{Places}
 use Rattle.tables.specs.declared.Given.{Given}
@@ -16,8 +18,8 @@ use Rattle.tables.specs.Tables.{readPlace, withReadPlace}
 use Rattle.orders.specs.Command.{orderHeard}
 use Rattle.tables.specs.Port.{Desk, startWords, header, closeOf, beginsAt}
 use Rattle.rules.specs.Families.{WordCall, command, dataIn, dataOut, status, wordOf}
-use Rattle.rules.specs.History.{Event, nothing, begins, sleeps, updates, writes, opens, closes, acknowledges, puts, words, pipes}
-use Rattle.rules.specs.Transfers.{notTaken}
+use Rattle.rules.specs.History.{Event, nothing, begins, sleeps, updates, writes, opensExchange, closesExchange, hearsAcknowledgement, puts, words, pipes}
+use Rattle.rules.specs.Transfers.{notTaken, wordErrs}
 
 -- all of the port: Initialise and power leave it as from power, Shutdown "closes an open transfer", a table word does what it does, and
 -- no other call touches it
@@ -27,9 +29,9 @@ portBy (begins a f) on w d = startWords
 portBy sleeps on w d = closeOf w
 portBy (updates f) on w d = w
 portBy (writes id v) on w d = w
-portBy (opens x) on w d = w
-portBy closes on w d = w
-portBy (acknowledges first one) on w d = w
+portBy (opensExchange x) on w d = w
+portBy closesExchange on w d = w
+portBy (hearsAcknowledgement first one) on w d = w
 portBy (puts s b) on w d = w
 portBy (words c) on w d = wordOf c on w d .pod
 portBy (pipes c l) on w d = w
@@ -107,3 +109,45 @@ isRead Idle = false
 isRead Address = false
 isRead (Load h k) = false
 isRead (Read h k at) = true
+
+-- ---- by a history
+
+-- whether the pod is initialised, the port, and the words of a load so far
+pub record Ported : Type 0 where
+  pub awake : Bool
+  pub words : Words
+  pub load : List ℕ
+
+abbrev pub ported : Bool → Words → List ℕ → Ported
+ported a w l = record { awake = a; words = w; load = l }
+
+-- a load's words gather, each in its place
+abbrev pub loadIn : Transfer → ℕ → List ℕ → List ℕ
+loadIn Idle x l = l
+loadIn Address x l = l
+loadIn (Load h k) x l = set l k x
+loadIn (Read h k at) x l = l
+
+unfoldable pub wordLoads : WordCall → Transfer → List ℕ → List ℕ
+wordLoads (command x) t l = l
+wordLoads (dataIn x) t l = loadIn t x l
+wordLoads dataOut t l = l
+wordLoads status t l = l
+
+-- a table word, each part by its own sentence
+abbrev pub wordHeard : WordCall → Bool → Words → List ℕ → Words
+wordHeard c on w l =
+    record { transfer = wordOpens c on w; error = wordErrs c on w l (w .error); places = wordPlaces c on w; given = wordGives c on w }
+
+unfoldable pub portedBy : Event → Ported → Ported
+portedBy nothing p = p
+portedBy (begins a f) p = ported a startWords (p .load)
+portedBy sleeps p = ported false (closeOf (p .words)) (p .load)
+portedBy (updates f) p = p
+portedBy (writes id v) p = p
+portedBy (opensExchange x) p = p
+portedBy closesExchange p = p
+portedBy (hearsAcknowledgement first one) p = p
+portedBy (puts s b) p = p
+portedBy (words c) p = ported (p .awake) (wordHeard c (p .awake) (p .words) (p .load)) (wordLoads c (p .words .transfer) (p .load))
+portedBy (pipes c l) p = p

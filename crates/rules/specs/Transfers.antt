@@ -8,7 +8,6 @@ use mathlib.Core.List.{List, [], _∷_, _++_}
 use lib.Dec.{ltb, eqb}
 use lib.ListN.{length, getD, set}
 use lib.Seq.{sets}
-use Rattle.orders.specs.declared.Table.{Table}
 use Rattle.tables.specs.declared.Header.{Header}
 use Rattle.tables.specs.declared.Words.{Words}
 use Rattle.orders.specs.declared.Order.{Order}
@@ -20,8 +19,8 @@ use Rattle.orders.specs.Command.{tableNumber, orderHeard}
 use Rattle.tables.specs.Port.{Desk, desk, dataCount, fits, header, isOpen, beginsAt, closeOf, withTransfer, withError, loadRight, storedIn}
 use Rattle.rules.specs.State.{soundPod, withWords, withDesk}
 use Rattle.rules.specs.Families.{WordCall, command, dataIn, dataOut, status}
-use Rattle.rules.specs.World.{World, world, withPod, Call, power, packet, deadline, put, word, pipe, samples, step, next}
-use Rattle.rules.specs.History.{Event, nothing, begins, sleeps, updates, writes, opens, closes, acknowledges, puts, words, pipes, eventOf, events}
+use Rattle.rules.specs.World.{World, world, withPod, Call, power, packet, deadline, put, word, pipe, samples, next}
+use Rattle.rules.specs.History.{Event, nothing, begins, sleeps, updates, writes, opensExchange, closesExchange, hearsAcknowledgement, puts, words, pipes, events}
 
 -- a world in which no row that applies to a table word holds
 pub record Fit (w : World) : Type 0 where
@@ -52,9 +51,9 @@ cuts f (begins a g) = true
 cuts f sleeps = true
 cuts f (updates g) = false
 cuts f (writes id v) = false
-cuts f (opens x) = false
-cuts f closes = false
-cuts f (acknowledges first one) = false
+cuts f (opensExchange x) = false
+cuts f closesExchange = false
+cuts f (hearsAcknowledgement first one) = false
 cuts f (puts s b) = false
 cuts f (words c) = f c
 cuts f (pipes c l) = false
@@ -65,18 +64,18 @@ leftOpen f [] = true
 leftOpen f (e ∷ es) = not (cuts f e) && leftOpen f es
 
 -- the data words that a call writes, and how many it reads
-abbrev pub wordWritten : WordCall → List ℕ
-wordWritten (command x) = []
-wordWritten (dataIn x) = x ∷ []
-wordWritten dataOut = []
-wordWritten status = []
+abbrev pub dataWritten : WordCall → List ℕ
+dataWritten (command x) = []
+dataWritten (dataIn x) = x ∷ []
+dataWritten dataOut = []
+dataWritten status = []
 
 abbrev pub callWritten : Call → List ℕ
 callWritten power = []
 callWritten (packet b room) = []
 callWritten deadline = []
 callWritten (put s b) = []
-callWritten (word c) = wordWritten c
+callWritten (word c) = dataWritten c
 callWritten (pipe c) = []
 callWritten (samples k xs) = []
 
@@ -200,18 +199,12 @@ errorBy (begins a f) on w l e = false
 errorBy sleeps on w l e = e || isOpen (w .transfer)
 errorBy (updates f) on w l e = e
 errorBy (writes id v) on w l e = e
-errorBy (opens x) on w l e = e
-errorBy closes on w l e = e
-errorBy (acknowledges first one) on w l e = e
+errorBy (opensExchange x) on w l e = e
+errorBy closesExchange on w l e = e
+errorBy (hearsAcknowledgement first one) on w l e = e
 errorBy (puts s b) on w l e = e
 errorBy (words c) on w l e = wordErrs c on w l e
 errorBy (pipes c b) on w l e = e
-
--- by all of some calls
-unfoldable pub errorFrom : Bool → World → List Call → Bool
-errorFrom e w [] = e
-errorFrom e w (c ∷ cs) =
-    errorFrom (errorBy (eventOf c (step w c .told)) (w .pod .initialised) (w .pod .words) (w .lent .load) e) (next w c) cs
 
 -- ---- the tables
 
@@ -243,9 +236,9 @@ tablesBy (begins a f) on w d = starts
 tablesBy sleeps on w d = d .tables
 tablesBy (updates f) on w d = d .tables
 tablesBy (writes id v) on w d = d .tables
-tablesBy (opens x) on w d = d .tables
-tablesBy closes on w d = d .tables
-tablesBy (acknowledges first one) on w d = d .tables
+tablesBy (opensExchange x) on w d = d .tables
+tablesBy closesExchange on w d = d .tables
+tablesBy (hearsAcknowledgement first one) on w d = d .tables
 tablesBy (puts s b) on w d = d .tables
 tablesBy (words c) on w d = wordTables c on w d
 tablesBy (pipes c l) on w d = d .tables

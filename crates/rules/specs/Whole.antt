@@ -1,10 +1,8 @@
 -- All that the owner asked for, in one record: proofs/Whole.antt has its one value.
 -- Assumes nothing.
-use Rattle.rules.specs.Demands.{AlwaysAnswered, LowestFirst, RowsExactly, RefusedUnchanged, KeptSound, LoadWhole, LoadCut, ReadWhole, ReadEnds, ReadMoves, TablesOnly, MessageError, ErrorIsHistory, StatusWordShows, PortOnly, PlacesOnly, PacketAnswered, ChecksExactly, OpensExactly, Damage, DamageAnswered, ErrorUnchanged, BlocksAreHistory, ReceiveIsHistory, StatusIsHistory, ReadIsWritten, PipeIsHistory, FramesAreHistory, NoTrace, AsFromPower, NoTracePast, AnswerAlike, AsleepFromPower, AsleepFromShutdown, TransferOnly, ReadsZero}
+use Rattle.rules.specs.Demands.{AlwaysAnswered, LowestFirst, RowsExactly, RefusedUnchanged, KeptSound, LoadWhole, LoadCut, ReadWhole, ReadEnds, ReadMoves, TablesOnly, MessageError, StatusWordShows, PortOnly, PlacesOnly, PacketAnswered, ChecksExactly, OpensExactly, Damage, DamageAnswered, ErrorUnchanged, BlocksAreHistory, ReceiveIsHistory, StatusIsHistory, ReadIsWritten, PipeIsHistory, FramesAreHistory, NoTrace, AsFromPower, NoTracePast, AnswerAlike, AsleepFromPower, AsleepFromShutdown, TransferOnly, PortIsHistory, ReadsZero}
 use Rattle.rules.specs.Kept.{AwakeIsHistory, FieldsAreHistory, ExchangeIsHistory, ParamsAreHistory, MarksAreHistory, DropGuarded, FreshIs}
-use Rattle.rules.specs.Shown.{Shown}
-use Rattle.rules.specs.Edges.{Edges}
-use Rattle.rules.specs.Computed.{Computed, Conversation}
+use Rattle.rules.specs.Said.{SaysDone}
 
 pub record Whole : Type 0 where
   -- 1. each call is answered, or refused by a number, and a refused call changes nothing
@@ -13,6 +11,7 @@ pub record Whole : Type 0 where
   pub rows-exactly : RowsExactly
   pub refused-unchanged : RefusedUnchanged
   pub kept-sound : KeptSound
+  pub says-done : SaysDone
   -- 2. answers, tables, blocks and frames are exactly the papers'
   pub load-whole : LoadWhole
   pub load-cut : LoadCut
@@ -21,11 +20,11 @@ pub record Whole : Type 0 where
   pub read-moves : ReadMoves
   pub tables-only : TablesOnly
   pub message-error : MessageError
-  pub error-is-history : ErrorIsHistory
   pub status-word-shows : StatusWordShows
   pub port-only : PortOnly
   pub places-only : PlacesOnly
   pub transfer-only : TransferOnly
+  pub port-is-history : PortIsHistory
   pub reads-zero : ReadsZero
   pub packet-answered : PacketAnswered
   pub checks-exactly : ChecksExactly
@@ -54,8 +53,3 @@ pub record Whole : Type 0 where
   pub answer-alike : AnswerAlike
   pub asleep-from-power : AsleepFromPower
   pub asleep-from-shutdown : AsleepFromShutdown
-  -- document 01's examples, and what stands beside a statement that judges by a rule's own test
-  pub shown : Shown
-  pub edges : Edges
-  pub computed : Computed
-  pub conversation : Conversation

@@ -23,9 +23,9 @@ fn put(line: [u8; 48], at: usize, bytes: [u8; 8]) -> [u8; 48]
 fn write(f: Frames) {
     let an03 = f.an03;
     let an47 = f.an47;
-    let half = put([32; 48], 0, an03);
+    let half = put([b' '; 48], 0, an03);
     let mut line = put(half, 24, an47);
-    line[47] = 10;
+    line[47] = b'\n';
     io::write_all(STDOUT_FILENO, &line);
 }
 

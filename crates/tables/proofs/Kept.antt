@@ -18,7 +18,7 @@ use Rattle.tables.specs.declared.Transfer.{Transfer}
 use Rattle.tables.specs.declared.Transfer.the-variants.{Idle, Address, Load, Read}
 use Rattle.tables.specs.Tables.{Three, tableSize, withReadPlace}
 use Rattle.orders.specs.Command.{lengthAllowed, writes, transferAsked, partsOf, orderOf, orderHeard}
-use Rattle.tables.specs.Port.{Tabled, header, dataCount, fits, startWords, closeOf, wrongWay, readOpenedAt, readOpened, restarted, orderObeyed, commandOf, loadRight, loadJudged, loadOf, wordTaken, dataInOf, readNext, wordGiven, dataOutOf, statusOf}
+use Rattle.tables.specs.Port.{Tabled, header, dataCount, fits, startWords, closeOf, wrongWay, readOpenedAt, readOpened, restarted, orderObeyed, commandOf, loadRight, loadJudged, loadOf, wordTaken, dataInOf, readNext, wordGiven, dataOutOf}
 use Rattle.tables.specs.Bounds.{soundPlaces, soundTransfer, soundWords}
 use Rattle.rows.proofs.Bool.{by-test}
 use Rattle.orders.proofs.Lengths.{allowed-has}
@@ -55,7 +55,7 @@ heard-able : (on : Bool) (word : ℕ) → Able (orderHeard on word)
 unfolding orderHeard
 heard-able on word = by-test Able on (λ e. order-able (partsOf word)) (λ e. tt)
 
--- ---- closing, and the status word
+-- ---- closing
 
 Sound : Words → Type 0
 Sound w = soundWords w ≡ true
@@ -71,10 +71,6 @@ close-sound w h = both-sound (closeOf w) (sound-places w h) refl
 wrong-sound : (w : Words) → soundWords w ≡ true → soundWords (wrongWay w) ≡ true
 unfolding wrongWay soundTransfer
 wrong-sound w h = both-sound (wrongWay w) (sound-places w h) refl
-
-pub status-sound : (w : Words) → soundWords w ≡ true → soundWords (statusOf w .words) ≡ true
-unfolding statusOf
-status-sound w h = both-sound _ (sound-places w h) (sound-transfer w h)
 
 -- ---- a command word
 

@@ -5,7 +5,6 @@ pub mod Reading
 pub mod Loading
 pub mod Limits
 pub mod Storing
-pub mod Gathering
 pub mod Stale
 pub mod Kept
 pub mod Lengths

@@ -1,9 +1,9 @@
 -- The judgement of a load, over any table.
 use mathlib.Core.Path.{_≡_}
-use mathlib.Core.Bool.{true, false, _&&_}
+use mathlib.Core.Bool.{true, false}
 use mathlib.Core.List.{List}
 use Prim.Native.Nat.{ℕ, _+_, _≤_, _<_}
-use borrow.Author.Tests.{leb-true, eqb-true, lt-ltb, le-ltb}
+use borrow.Author.Tests.{leb-true, lt-ltb, le-ltb}
 use lib.Dec.{eqb}
 use lib.ListN.{getD, set}
 use Rattle.tables.specs.declared.Header.{Header}
@@ -12,26 +12,14 @@ use Rattle.tables.specs.declared.Transfer.the-variants.{Idle, Load}
 use Rattle.tables.specs.Tables.{tableSize, Three, wordsOf, withTable}
 use Rattle.orders.specs.Command.{tableNumber}
 use Rattle.tables.specs.Port.{desk, Tabled, tabled, withTransfer, erred, dataCount, wordThree, fits, loadRight, storedIn, loadJudged, loadOf}
-use Rattle.rows.proofs.Bool.{and-left, and-right}
+use Rattle.rows.proofs.Bool.{and-right}
 
--- what a load that is taken has right
-pub record Right (h : Header) (l : List ℕ) : Type 0 where
-  pub first : getD l 0 0 ≡ tableNumber (h .table)
-  pub third : getD l 2 0 ≡ wordThree h
-  pub end : getD l 1 0 + dataCount h ≤ tableSize (h .table)
-
-pub right-has : (h : Header) (l : List ℕ) → loadRight h l ≡ true → Right h l
+-- a load that is right lies within its table
+pub right-within : (h : Header) (l : List ℕ) → loadRight h l ≡ true → getD l 1 0 + dataCount h ≤ tableSize (h .table)
 unfolding loadRight
-right-has h l e =
-    let a = eqb (getD l 0 0) (tableNumber (h .table)) in
-    let b = eqb (getD l 2 0) (wordThree h) in
-    let d = fits (h .table) (getD l 1 0) (dataCount h) in
-    let rest = and-right a (b && d) e in
-    record {
-      first = eqb-true _ _ (and-left a (b && d) e);
-      third = eqb-true _ _ (and-left b d rest);
-      end = leb-true _ _ (and-right b d rest);
-    }
+right-within h l e =
+    leb-true _ _
+    (and-right (eqb (getD l 2 0) (wordThree h)) (fits (h .table) (getD l 1 0) (dataCount h)) (and-right (eqb (getD l 0 0) (tableNumber (h .table))) _ e))
 
 module _ (h : Header) (l : List ℕ) (w : Words) (s : Three) where
   -- a right load is stored

@@ -50,11 +50,11 @@ module _ (h : Header) (a b : List ℕ) (least : 4 ≤ h .n) (e : take (h .n) a �
   word-same : (i : ℕ) → i < h .n → getD a i 0 ≡ getD b i 0
   word-same i near = sym (getD-take (h .n) a i 0 near) ∙ ap (λ (l : List ℕ). getD l i 0) e ∙ getD-take (h .n) b i 0 near
 
-  right-same : loadRight h a ≡ loadRight h b
+  pub right-same : loadRight h a ≡ loadRight h b
   unfolding loadRight
   right-same = rw (word-same 0 (omega arith), word-same 1 (omega arith), word-same 2 (omega arith))
 
-  stored-same : (table : List ℕ) → storedIn h a table ≡ storedIn h b table
+  pub stored-same : (table : List ℕ) → storedIn h a table ≡ storedIn h b table
   unfolding storedIn
   stored-same table =
       let count : 3 + dataCount h ≡ h .n = omega arith in

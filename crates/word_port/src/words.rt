@@ -11,20 +11,20 @@ ghost use Prim.Native.Nat.{ℕ};
 ghost use Rattle.rows.specs.Rows.{out};
 ghost use Rattle.tables.specs.Tables.{three};
 ghost use Rattle.tables.specs.Port.{Desk, desk};
-ghost use Rattle.rules.specs.State.{withWords};
+ghost use Rattle.rules.specs.State.{withWords, soundPod};
 ghost use Rattle.rules.specs.Refusals.{answerSaid, tablesRow, stateRow};
 ghost use Rattle.rules.specs.Families.{command, dataIn, dataOut, status};
 ghost use Rattle.rules.specs.Calls.{wordCall};
 ghost use Rattle.gates.specs.Gates.{Gated};
 
-// The rows of every table word that is lent the tables.
-fn word_gate(pod: Pod, five: &[u16], six: &[u16], seven: &[u16]) -> Gate
-    ensures { λ r. ⌜ Gated r (tablesRow (three (now (five .entry)) (now (six .entry)) (now (seven .entry))) ∷ stateRow pod ∷ []) ⌝ }
+// The rows of every table word that is lent the tables, of a pod whose bounds were judged: the verdict is handed in, and not the pod.
+fn word_gate(ok: bool, five: &[u16], six: &[u16], seven: &[u16]) -> Gate
+    ensures { λ r. ⌜ ((p : Pod) → ok ≡ soundPod p → Gated r (tablesRow (three (now (five .entry)) (now (six .entry)) (now (seven .entry))) ∷ stateRow p ∷ [])) ⌝ }
 {
     if !tables::sized(five, six, seven) {
         return Gate::Shut(Refusal::Size);
     }
-    if !sound(pod) {
+    if !ok {
         return Gate::Shut(Refusal::State);
     }
     Gate::Open
@@ -40,7 +40,7 @@ pub fn command_word(
     ensures { λ r. ⌜ ((l : List ℕ) → out (answerSaid (r .answer)) (withWords (r .words) pod) (desk (three (now (five .exit)) (now (six .exit)) (now (seven .exit))) l) ≡ wordCall (command word) (desk (three (now (five .entry)) (now (six .entry)) (now (seven .entry))) l) pod) ⌝ }
 {
     let words = pod.words;
-    let gate = word_gate(pod, five, six, seven);
+    let gate = word_gate(sound(pod), five, six, seven);
     match gate {
         Gate::Shut(why) => Worded {
             answer: Answer::Refused(why),
@@ -64,7 +64,7 @@ pub fn data_in(
     ensures { λ r. ⌜ out (answerSaid (r .answer)) (withWords (r .words) pod) (desk (three (now (five .exit)) (now (six .exit)) (now (seven .exit))) (now (load .exit))) ≡ wordCall (dataIn word) (desk (three (now (five .entry)) (now (six .entry)) (now (seven .entry))) (now (load .entry))) pod ⌝ }
 {
     let words = pod.words;
-    let gate = word_gate(pod, five, six, seven);
+    let gate = word_gate(sound(pod), five, six, seven);
     match gate {
         Gate::Shut(why) => Worded {
             answer: Answer::Refused(why),
@@ -81,7 +81,7 @@ pub fn data_out(pod: Pod, five: &[u16], six: &[u16], seven: &[u16]) -> Worded
     ensures { λ r. ⌜ ((l : List ℕ) → out (answerSaid (r .answer)) (withWords (r .words) pod) (desk (three (now (five .entry)) (now (six .entry)) (now (seven .entry))) l) ≡ wordCall dataOut (desk (three (now (five .entry)) (now (six .entry)) (now (seven .entry))) l) pod) ⌝ }
 {
     let words = pod.words;
-    let gate = word_gate(pod, five, six, seven);
+    let gate = word_gate(sound(pod), five, six, seven);
     match gate {
         Gate::Shut(why) => Worded {
             answer: Answer::Refused(why),

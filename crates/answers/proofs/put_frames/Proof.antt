@@ -14,35 +14,11 @@ use borrow.Author.Needs.{needs}
 use Rattle.answers.proofs.put_frames.Statement.{statement}
 use Rattle.answers.proofs.put_frames.Tie as tie
 
-slice-aggregate-append : tie.Need-slice-aggregate-append
-slice-aggregate-append c = search needs
-
-slice-aggregate-append-2 : tie.Need-slice-aggregate-append-2
-slice-aggregate-append-2 c = search needs
-
-append-requires : tie.Need-append-requires
-append-requires c κs = let x : length (c .before .before .before .before .before .args .frames .an03) ≡ 8 = search needs in omega arith
-
-slice-aggregate-append-3 : tie.Need-slice-aggregate-append-3
-slice-aggregate-append-3 c = search needs
-
-slice-aggregate-append-4 : tie.Need-slice-aggregate-append-4
-slice-aggregate-append-4 c = search needs
-
 append-requires-2 : tie.Need-append-requires-2
 append-requires-2 c κs =
     let x : length (c .before .before .before .before .before .before .before .before .before .args .frames .an47) ≡ 8 = search needs in
     let y : length (c .before .before .before .append .last .0) ≡ 16 = search needs in
     omega arith
-
-slice-aggregate-put-line : tie.Need-slice-aggregate-put-line
-slice-aggregate-put-line c = search needs
-
-put-line-requires : tie.Need-put-line-requires
-put-line-requires c κs = search needs
-
-same-length : tie.Need-same-length
-same-length c = search needs
 
 returns : tie.Need-returns
 returns c =
@@ -60,15 +36,6 @@ returns c =
 
 pub put-frames-spec : {M : Type 1} → statement M
 put-frames-spec =
-    tie.close
-    (tie.spec
-    slice-aggregate-append
-    slice-aggregate-append-2
-    append-requires
-    slice-aggregate-append-3
-    slice-aggregate-append-4
-    append-requires-2
-    slice-aggregate-put-line
-    put-line-requires
-    same-length
-    returns)
+    tie.close (tie.spec (λ c. search needs) (λ c. search needs)
+    (λ c κs. let x : length (c .before .before .before .before .before .args .frames .an03) ≡ 8 = search needs in omega arith) (λ c. search needs)
+    (λ c. search needs) append-requires-2 (λ c. search needs) (λ c κs. search needs) (λ c. search needs) returns)

@@ -8,42 +8,6 @@ use borrow.Author.Needs.{needs}
 use Rattle.answers.proofs.put_line.Statement.{statement}
 use Rattle.answers.proofs.put_line.Tie as tie
 
-enum-known-answer : tie.Need-enum-known-answer
-enum-known-answer c = search needs
-
-number-requires : tie.Need-number-requires
-number-requires c κs = search needs
-
-refused-line-requires : tie.Need-refused-line-requires
-refused-line-requires c κs = search needs
-
-enum-known-answer-2 : tie.Need-enum-known-answer-2
-enum-known-answer-2 c = search needs
-
-front-requires : tie.Need-front-requires
-front-requires c κs = search needs
-
-bytes-line-requires : tie.Need-bytes-line-requires
-bytes-line-requires c κs = search needs
-
-enum-known-answer-3 : tie.Need-enum-known-answer-3
-enum-known-answer-3 c = search needs
-
-word-line-requires : tie.Need-word-line-requires
-word-line-requires c κs = search needs
-
-enum-told : tie.Need-enum-told
-enum-told c = search needs
-
-bytes-line-requires-2 : tie.Need-bytes-line-requires-2
-bytes-line-requires-2 c κs = search needs
-
-bare-line-requires : tie.Need-bare-line-requires
-bare-line-requires c κs = search needs
-
-same-length : tie.Need-same-length
-same-length c = search needs
-
 returns : tie.Need-returns
 returns c =
     let a = c .before .before .before .before .before .before .before .before .before .before .args in
@@ -53,9 +17,6 @@ returns c =
     written-as (refusedLine (a .letter) (n .result)) _ _ _ _ _ _
     (said-refused (form (a .letter) (a .lists)) (a .answer) (now (a .bytes)) (is .0 .0) (n .result) (is .1) (n .ensures .0))
     (r .ensures .0, (r .ensures .1 .0, omega (arith, r .ensures .1 .1)))
-
-same-length-2 : tie.Need-same-length-2
-same-length-2 c = search needs
 
 returns-2 : tie.Need-returns-2
 returns-2 c =
@@ -67,9 +28,6 @@ returns-2 c =
     (said-length (form (a .letter) (a .lists)) (a .answer) (now (a .bytes)) (is .0 .0) (now (f .result)) (is .1) (f .ensures .0))
     (r .ensures .0, (r .ensures .1 .0, omega (arith, r .ensures .1 .1, f .ensures .1)))
 
-same-length-3 : tie.Need-same-length-3
-same-length-3 c = search needs
-
 returns-3 : tie.Need-returns-3
 unfolding wordLine
 returns-3 c =
@@ -80,9 +38,6 @@ returns-3 c =
     (said-word (form (a .letter) (a .lists)) (a .answer) (now (a .bytes)) (is .0 .0) (is .1))
     (r .ensures .0, (r .ensures .1, omega (arith, r .ensures .0)))
 
-same-length-4 : tie.Need-same-length-4
-same-length-4 c = search needs
-
 returns-4 : tie.Need-returns-4
 returns-4 c =
     let a = c .before .before .before .before .before .before .before .before .before .args in
@@ -90,9 +45,6 @@ returns-4 c =
     written-as (bytesLine (a .letter) (now (a .bytes))) _ _ _ _ _ _
     (said-listed (form (a .letter) (a .lists)) (a .answer) (now (a .bytes)) (c .before .before .before .before .before .enum-told .given .1) (c .before .before .before .before .if1 .taken))
     (r .ensures .0, (r .ensures .1 .0, omega (arith, r .ensures .1 .1)))
-
-same-length-5 : tie.Need-same-length-5
-same-length-5 c = search needs
 
 returns-5 : tie.Need-returns-5
 unfolding bareLine
@@ -105,26 +57,7 @@ returns-5 c =
 
 pub put-line-spec : {M : Type 1} → statement M
 put-line-spec =
-    tie.close
-    (tie.spec
-    enum-known-answer
-    number-requires
-    refused-line-requires
-    enum-known-answer-2
-    front-requires
-    bytes-line-requires
-    enum-known-answer-3
-    word-line-requires
-    enum-told
-    bytes-line-requires-2
-    bare-line-requires
-    same-length
-    returns
-    same-length-2
-    returns-2
-    same-length-3
-    returns-3
-    same-length-4
-    returns-4
-    same-length-5
+    tie.close (tie.spec (λ c. search needs) (λ c κs. search needs) (λ c κs. search needs) (λ c. search needs) (λ c κs. search needs)
+    (λ c κs. search needs) (λ c. search needs) (λ c κs. search needs) (λ c. search needs) (λ c κs. search needs) (λ c κs. search needs)
+    (λ c. search needs) returns (λ c. search needs) returns-2 (λ c. search needs) returns-3 (λ c. search needs) returns-4 (λ c. search needs)
     returns-5)

@@ -4,16 +4,7 @@ use borrow.Author.Needs.{needs}
 use Rattle.answers.proofs.put_packet.Statement.{statement}
 use Rattle.answers.proofs.put_packet.Tie as tie
 
-put-line-requires : tie.Need-put-line-requires
-put-line-requires c κs = search needs
-
-same-length : tie.Need-same-length
-same-length c = search needs
-
-returns : tie.Need-returns
-returns c =
-    let r = c .before .before .put-line in
-    (r .ensures .0, (r .ensures .1 .0, omega arith))
-
 pub put-packet-spec : {M : Type 1} → statement M
-put-packet-spec = tie.close (tie.spec put-line-requires same-length returns)
+put-packet-spec =
+    tie.close (tie.spec (λ c κs. search needs) (λ c. search needs)
+    (λ c. let r = c .before .before .put-line in (r .ensures .0, (r .ensures .1 .0, omega arith))))

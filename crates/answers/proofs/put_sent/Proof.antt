@@ -11,18 +11,6 @@ use borrow.Author.Needs.{needs}
 use Rattle.answers.proofs.put_sent.Statement.{statement}
 use Rattle.answers.proofs.put_sent.Tie as tie
 
-slice-aggregate-front : tie.Need-slice-aggregate-front
-slice-aggregate-front c = search needs
-
-front-requires : tie.Need-front-requires
-front-requires c κs = search needs
-
-put-line-requires : tie.Need-put-line-requires
-put-line-requires c κs = let x : length (c .before .before .before .before .before .args .sent .bytes) ≡ 8 = search needs in omega (arith, c .front .ensures .1)
-
-same-length : tie.Need-same-length
-same-length c = search needs
-
 returns : tie.Need-returns
 unfolding sentBytes
 returns c =
@@ -36,4 +24,6 @@ returns c =
 
 pub put-sent-spec : {M : Type 1} → statement M
 put-sent-spec =
-    tie.close (tie.spec slice-aggregate-front front-requires put-line-requires same-length returns)
+    tie.close (tie.spec (λ c. search needs) (λ c κs. search needs)
+    (λ c κs. let x : length (c .before .before .before .before .before .args .sent .bytes) ≡ 8 = search needs in omega (arith, c .front .ensures .1))
+    (λ c. search needs) returns)

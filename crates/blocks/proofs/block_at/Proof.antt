@@ -8,14 +8,11 @@ use Rattle.blocks.specs.Stores.{blockAt}
 use Rattle.blocks.proofs.block_at.Statement.{statement}
 use Rattle.blocks.proofs.block_at.Tie as tie
 
-returns : tie.Need-returns
-unfolding blockAt
-returns c =
-    let a = c .before .args in
-    ap (λ (k : ℕ). take k (drop (a .at * 256) (now (a .store)))) (add-sub-cancel-left (a .at * 256) 256)
-
 pub block-at-spec : {M : Type 1} → statement M
+unfolding blockAt
 block-at-spec =
-    tie.close (tie.spec
-    (λ c. search needs) (λ c. search needs) (λ c. search needs) (λ c. search needs) (λ c. search needs)
-    returns)
+    tie.close
+    (tie.spec (λ c. search needs) (λ c. search needs) (λ c. search needs) (λ c. search needs) (λ c. search needs)
+    (λ c.
+    let a = c .before .args in
+    ap (λ (k : ℕ). take k (drop (a .at * 256) (now (a .store)))) (add-sub-cancel-left (a .at * 256) 256)))

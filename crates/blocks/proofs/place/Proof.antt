@@ -6,15 +6,13 @@ use Rattle.blocks.proofs.Places.{place-on, place-round}
 use Rattle.blocks.proofs.place.Statement.{statement}
 use Rattle.blocks.proofs.place.Tie as tie
 
-returns : tie.Need-returns
-returns c =
-    let a = c .before .args in
-    sym (place-on (a .capacity) (a .from) (a .k) (omega arith))
-
-returns-2 : tie.Need-returns-2
-returns-2 c =
-    let a = c .before .args in
-    omega (arith, place-round (a .capacity) (a .from) (a .k) (omega arith))
-
 pub place-spec : {M : Type 1} → statement M
-place-spec = tie.close (tie.spec (λ c. search needs) (λ c. search needs) returns returns-2)
+place-spec =
+    tie.close
+    (tie.spec (λ c. search needs) (λ c. search needs)
+    (λ c.
+    let a = c .before .args in
+    sym (place-on (a .capacity) (a .from) (a .k) (omega arith)))
+    (λ c.
+    let a = c .before .args in
+    omega (arith, place-round (a .capacity) (a .from) (a .k) (omega arith) (omega arith))))

@@ -16,18 +16,15 @@ placed c =
     subst⁻¹ (λ (i : ℕ). i < start .args .capacity) (c .place .ensures)
     (place-in _ _ (bounds _ _ (start .pre .0 .0) .0) _ (omega arith))
 
-returns : tie.Need-returns
+pub put-spec : {M : Type 1} → statement M
 unfolding putRing putStore
-returns c =
+put-spec =
+    tie.close
+    (tie.spec (λ c. search needs) (λ c κs. (bounds _ _ (c .before .before .pre .0 .0) .0, search needs)) (λ c. omega (arith, placed (c .before)))
+    (λ c κs. omega (arith, placed (c .before))) (λ c. search needs)
+    (λ c.
     let after = c .before .before .before .before in
     let a = after .before .before .before .args in (
       refl,
       c .before .before .copy .ensures ∙ ap (λ (i : ℕ). sets (now (a .store)) (i * 256) (now (a .block))) (after .place .ensures),
-    )
-
-pub put-spec : {M : Type 1} → statement M
-put-spec =
-    tie.close (tie.spec
-    (λ c. search needs) (λ c κs. (bounds _ _ (c .before .before .pre .0 .0) .0, search needs))
-    (λ c. omega (arith, placed (c .before))) (λ c κs. omega (arith, placed (c .before))) (λ c. search needs)
-    returns)
+    )))

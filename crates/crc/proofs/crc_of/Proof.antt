@@ -1,5 +1,4 @@
 -- `crc::crc_of` meets its contract: in both loops the rest of the bytes still brings the register to the value for all of them.
--- Assumes nothing.
 use mathlib.Core.Path.{_≡_, sym, ap, _∙_}
 use Prim.Native.Nat.{ℕ, _+_, _-_, _^_, _≤_, _<_}
 use native.Mathlib.Nat.{min-eq-left}
@@ -26,43 +25,31 @@ Inv-loop2 bytes s i₀ c₀ i c = (i ≤ length bytes) × (crcFrom c (drop i byt
 abbrev μ-loop2 : tie.MeasureT-loop2
 μ-loop2 bytes s i₀ c₀ i c = length bytes - i
 
-word-of-requires : tie.Need-word-of-requires Inv-loop μ-loop Inv-loop2 μ-loop2
-word-of-requires c κs =
+pub crc-of-spec : {M : Type 1} → statement M
+unfolding crcOf fold
+crc-of-spec =
+    tie.close
+    (tie.spec Inv-loop μ-loop Inv-loop2 μ-loop2 (λ c. (search needs, omega arith, rw started)) (λ c. search needs) (λ c. search needs)
+    (λ c. search needs) (λ c. search needs) (λ c. search needs)
+    (λ c κs.
     let eight : (c .before .before .loop .i + 8) - c .before .before .loop .i ≡ 8 = omega arith in
-    rw (eight, length-take, length-drop) (min-eq-left (search needs))
-
-loop-again : tie.Need-loop-again Inv-loop μ-loop Inv-loop2 μ-loop2
-loop-again c =
+    rw (eight, length-take, length-drop) (min-eq-left (search needs))) (λ c. search needs) (λ c. search needs)
+    (λ c.
     let at = c .before .before .before .loop in
     let bytes = c .before .before .before .before .before .args .bytes .now in
     let eight : (at .i + 8) - at .i ≡ 8 = omega arith in
     let word : bytesOf 8 (c .word-of .result) ≡ take 8 (drop (at .i) bytes) = rw eight at (c .word-of .ensures) in
     let told = eight-more (at .s) (c .word-of .result) (at .inv .1) ∙ ap (crcFrom (fold (at .s))) word in
-    (search needs, eight-fits (at .s) (c .word-of .result) (at .inv .1) (search needs), ap (λ (x : ℕ). crcFrom x (drop (at .i + 8) bytes)) told ∙ sym (more 8 (fold (at .s)) bytes (at .i)) ∙ at .inv .2)
-
-loop2-holds : tie.Need-loop2-holds Inv-loop μ-loop Inv-loop2 μ-loop2
-unfolding fold
-loop2-holds c = (search needs, rw (c .fold-of .ensures) (c .before .before .loop .inv .2))
-
-loop2-again : tie.Need-loop2-again Inv-loop μ-loop Inv-loop2 μ-loop2
-loop2-again c =
+    (search needs, eight-fits (at .s) (c .word-of .result) (at .inv .1) (search needs), ap (λ (x : ℕ). crcFrom x (drop (at .i + 8) bytes)) told ∙ sym (more 8 (fold (at .s)) bytes (at .i)) ∙ at .inv .2))
+    (λ c κs. search needs) (λ c. (search needs, rw (c .fold-of .ensures) (c .before .before .loop .inv .2))) (λ c. search needs)
+    (λ c κs. search needs) (λ c. search needs) (λ c. search needs)
+    (λ c.
     let at = c .before .before .before .loop2 in
     let bytes = c .before .before .before .before .before .before .before .before .args .bytes .now in (
       search needs,
       ap (λ (x : ℕ). crcFrom x (drop (at .i + 1) bytes)) (c .one .ensures ∙ ap (crcFrom (at .c)) (places-are 1 (at .i) bytes (search needs)))
           ∙ sym (more 1 (at .c) bytes (at .i)) ∙ at .inv .1,
-    )
-
-returns : tie.Need-returns Inv-loop μ-loop Inv-loop2 μ-loop2
-returns c =
+    ))
+    (λ c.
     let end : length (c .before .before .before .before .before .before .args .bytes .now) ≤ c .before .loop2 .i = search needs in
-    rw (drop-of-length-le, from-none) at (c .before .loop2 .inv .1)
-
-pub crc-of-spec : {M : Type 1} → statement M
-unfolding crcOf
-crc-of-spec =
-    tie.close (tie.spec
-    Inv-loop μ-loop Inv-loop2 μ-loop2 (λ c. (search needs, omega arith, rw started)) (λ c. search needs)
-    (λ c. search needs) (λ c. search needs) (λ c. search needs) (λ c. search needs) word-of-requires
-    (λ c. search needs) (λ c. search needs) loop-again (λ c κs. search needs) loop2-holds (λ c. search needs)
-    (λ c κs. search needs) (λ c. search needs) (λ c. search needs) loop2-again returns)
+    rw (drop-of-length-le, from-none) at (c .before .loop2 .inv .1)))

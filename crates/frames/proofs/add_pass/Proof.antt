@@ -1,5 +1,4 @@
 -- `frames::add_pass` meets its contract: before turn c the channels below c have the pass added.
--- Assumes nothing.
 use Prim.Native.Nat.{ℕ, _+_, _*_, _≤_, _<_, _-_}
 use mathlib.Core.Path.{_≡_, sym, _∙_}
 use mathlib.Core.List.{List}
@@ -23,51 +22,21 @@ abbrev μ-loop : tie.MeasureT-loop
 held : (xs : List ℕ) (p c : ℕ) → c < 8 → getD (mixed (sumsOf (p + 1) xs) (sumsOf p xs) c) c 0 ≡ sumOf p xs c
 held xs p c h = mixed-at (sumsOf (p + 1) xs) (sumsOf p xs) 8 (length-sums (p + 1) xs) (length-sums p xs) c h ∙ sums-at p xs c h
 
-loop-holds : tie.Need-loop-holds Inv-loop μ-loop
-loop-holds c = (search needs, c .pre .3)
-
-mul-out : tie.Need-mul-out Inv-loop μ-loop
-mul-out c = search needs
-
-array-read-out : tie.Need-array-read-out Inv-loop μ-loop
-array-read-out c = search needs
-
-mul-out-2 : tie.Need-mul-out-2 Inv-loop μ-loop
-mul-out-2 c = search needs
-
-add-out : tie.Need-add-out Inv-loop μ-loop
-add-out c = search needs
-
-mul-out-3 : tie.Need-mul-out-3 Inv-loop μ-loop
-mul-out-3 c = search needs
-
-shared-slice-read-out : tie.Need-shared-slice-read-out Inv-loop μ-loop
-shared-slice-read-out c = search needs
-
-add-out-2 : tie.Need-add-out-2 Inv-loop μ-loop
-add-out-2 c =
+pub add-pass-spec : {M : Type 1} → statement M
+add-pass-spec =
+    tie.close
+    (tie.spec Inv-loop μ-loop (λ c. (search needs, c .pre .3)) (λ c. search needs) (λ c. search needs) (λ c. search needs) (λ c. search needs)
+    (λ c. search needs) (λ c. search needs)
+    (λ c.
     let args = c .before .before .before .args in
     let xs = args .samples .now in
     let i = c .before .before .loop .c in
     let pre = c .before .before .before .pre in
     let was = held xs (args .p) i (search needs) in
     let now : getD (c .before .before .loop .out) i 0 ≡ sumOf (args .p) xs i = cc in
-    omega (arith, sum-most (args .p) xs i (pre .1), each-bounded xs (args .p * 8 + i) (pre .1), pre .2)
-
-mul-out-4 : tie.Need-mul-out-4 Inv-loop μ-loop
-mul-out-4 c = search needs
-
-array-write-out : tie.Need-array-write-out Inv-loop μ-loop
-array-write-out c = search needs
-
-add-c : tie.Need-add-c Inv-loop μ-loop
-add-c c = search needs
-
-loop-less : tie.Need-loop-less Inv-loop μ-loop
-loop-less c = search needs
-
-loop-again : tie.Need-loop-again Inv-loop μ-loop
-loop-again c =
+    omega (arith, sum-most (args .p) xs i (pre .1), each-bounded xs (args .p * 8 + i) (pre .1), pre .2)) (λ c. search needs) (λ c. search needs)
+    (λ c. search needs) (λ c. search needs)
+    (λ c.
     let args = c .before .before .before .args in
     let xs = args .samples .now in
     let p = args .p in
@@ -75,32 +44,9 @@ loop-again c =
     let here : i < 8 = search needs in
     let next : set (mixed (sumsOf (p + 1) xs) (sumsOf p xs) i) i (sumOf p xs i + getD xs (p * 8 + i) 0) ≡ mixed (sumsOf (p + 1) xs) (sumsOf p xs) (i + 1) =
     mixed-more (sumsOf (p + 1) xs) (sumsOf p xs) 8 (length-sums (p + 1) xs) (length-sums p xs) i _ here (sym (sums-at (p + 1) xs i here ∙ sum-more p xs i)) in
-    (search needs, cc (held xs p i here))
-
-returns : tie.Need-returns Inv-loop μ-loop
-returns c =
+    (search needs, cc (held xs p i here)))
+    (λ c.
     let args = c .before .before .args in
     let xs = args .samples .now in
     let end : c .before .loop .c ≡ 8 = omega arith in
-    cc (mixed-all (sumsOf (args .p + 1) xs) (sumsOf (args .p) xs) 8 (length-sums (args .p + 1) xs) (length-sums (args .p) xs))
-
-pub add-pass-spec : {M : Type 1} → statement M
-add-pass-spec =
-    tie.close
-    (tie.spec
-    Inv-loop
-    μ-loop
-    loop-holds
-    mul-out
-    array-read-out
-    mul-out-2
-    add-out
-    mul-out-3
-    shared-slice-read-out
-    add-out-2
-    mul-out-4
-    array-write-out
-    add-c
-    loop-less
-    loop-again
-    returns)
+    cc (mixed-all (sumsOf (args .p + 1) xs) (sumsOf (args .p) xs) 8 (length-sums (args .p + 1) xs) (length-sums (args .p) xs))))

@@ -1,5 +1,4 @@
 -- `frames::bounded` meets its contract: the samples passed are within the bound; the first that is over ends both loops.
--- Assumes nothing.
 use Prim.Native.Nat.{_+_, _*_, _≤_, _-_}
 use mathlib.Core.Path.{_≡_, sym}
 use mathlib.Core.Bool.{true}
@@ -23,88 +22,34 @@ Inv-passes samples within₀ p₀ within p = (p ≤ 16) × (within ≡ true) × 
 abbrev μ-passes : tie.MeasureT-passes
 μ-passes samples within₀ p₀ within p = 16 - p
 
-passes-holds : tie.Need-passes-holds Inv-loop μ-loop Inv-passes μ-passes
-passes-holds c = (search needs, search needs, none-over (c .args .samples .now))
-
-loop-holds : tie.Need-loop-holds Inv-loop μ-loop Inv-passes μ-passes
-loop-holds c =
+pub bounded-spec : {M : Type 1} → statement M
+bounded-spec =
+    tie.close
+    (tie.spec Inv-loop μ-loop Inv-passes μ-passes (λ c. (search needs, search needs, none-over (c .args .samples .now)))
+    (λ c.
     let none : c .before .passes .p * 8 + 0 ≡ c .before .passes .p * 8 = omega arith in
-    (search needs, search needs, rw none (c .before .passes .inv .2))
-
-mul-if1 : tie.Need-mul-if1 Inv-loop μ-loop Inv-passes μ-passes
-mul-if1 c = search needs
-
-add-if1 : tie.Need-add-if1 Inv-loop μ-loop Inv-passes μ-passes
-add-if1 c = search needs
-
-mul-if1-2 : tie.Need-mul-if1-2 Inv-loop μ-loop Inv-passes μ-passes
-mul-if1-2 c = search needs
-
-shared-slice-read-if1 : tie.Need-shared-slice-read-if1 Inv-loop μ-loop Inv-passes μ-passes
-shared-slice-read-if1 c = search needs
-
-add-c : tie.Need-add-c Inv-loop μ-loop Inv-passes μ-passes
-add-c c = search needs
-
-loop-less : tie.Need-loop-less Inv-loop μ-loop Inv-passes μ-passes
-loop-less c = search needs
-
-loop-again : tie.Need-loop-again Inv-loop μ-loop Inv-passes μ-passes
-loop-again c =
+    (search needs, search needs, rw none (c .before .passes .inv .2))) (λ c. search needs) (λ c. search needs) (λ c. search needs) (λ c. search needs)
+    (λ c. search needs) (λ c. search needs)
+    (λ c.
     let xs = c .before .before .before .before .before .before .args .samples .now in
     let p = c .before .before .before .before .before .passes .p in
     let i = c .before .before .before .loop .c in
     let on : p * 8 + (i + 1) ≡ p * 8 + i + 1 = omega arith in
     let more : boundedOf (take (p * 8 + i + 1) xs) ≡ true =
     one-within xs (p * 8 + i) (search needs) (c .before .before .before .loop .inv .2) (search needs) in
-    (search needs, search needs, rw on more)
-
-add-p : tie.Need-add-p Inv-loop μ-loop Inv-passes μ-passes
-add-p c = search needs
-
-passes-less : tie.Need-passes-less Inv-loop μ-loop Inv-passes μ-passes
-passes-less c = search needs
-
-passes-again : tie.Need-passes-again Inv-loop μ-loop Inv-passes μ-passes
-passes-again c =
+    (search needs, search needs, rw on more)) (λ c. search needs) (λ c. search needs)
+    (λ c.
     let p = c .before .before .before .passes .p in
     let on : (p + 1) * 8 ≡ p * 8 + c .before .loop .c = omega arith in
-    (search needs, search needs, rw on (c .before .loop .inv .2))
-
-returns : tie.Need-returns Inv-loop μ-loop Inv-passes μ-passes
-returns c =
+    (search needs, search needs, rw on (c .before .loop .inv .2)))
+    (λ c.
     let xs = c .before .before .args .samples .now in
     let end : c .before .passes .p * 8 ≡ 128 = omega arith in
     let first : boundedOf (take 128 xs) ≡ true = rw end at (c .before .passes .inv .2) in
     let all : boundedOf xs ≡ true = all-within xs 128 (c .before .before .pre) first in
-    cc
-
-returns-2 : tie.Need-returns-2 Inv-loop μ-loop Inv-passes μ-passes
-returns-2 c =
+    cc)
+    (λ c.
     let xs = c .before .before .before .before .before .before .args .samples .now in
     let p = c .before .before .before .before .before .passes .p in
     let i = c .before .before .before .loop .c in
-    sym (one-over xs (p * 8 + i) (search needs))
-
-pub bounded-spec : {M : Type 1} → statement M
-bounded-spec =
-    tie.close
-    (tie.spec
-    Inv-loop
-    μ-loop
-    Inv-passes
-    μ-passes
-    passes-holds
-    loop-holds
-    mul-if1
-    add-if1
-    mul-if1-2
-    shared-slice-read-if1
-    add-c
-    loop-less
-    loop-again
-    add-p
-    passes-less
-    passes-again
-    returns
-    returns-2)
+    sym (one-over xs (p * 8 + i) (search needs))))

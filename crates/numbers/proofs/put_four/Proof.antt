@@ -1,5 +1,4 @@
 -- `numbers::put_four` meets its contract: four stores, each within the slice.
--- Assumes nothing.
 use native.Mathlib.Omega.{arith}
 use lib.ListN.{length-set}
 use Rattle.numbers.proofs.Digits.{four-stored}

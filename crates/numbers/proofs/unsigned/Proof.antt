@@ -1,5 +1,4 @@
 -- `numbers::unsigned` meets its contract: below 0 the sum at 64 bits is the number's two's complement, and from 0 on it is the number.
--- Assumes nothing.
 use mathlib.Core.Path.{_≡_, ap, _∙_}
 use native.Mathlib.Omega.{arith}
 use lib.IntN.{ℤ, pos, _+ℤ_}
@@ -33,21 +32,14 @@ plain c =
     let e = toZ-ofZ {w = w32} {z = v} (c .before .fits .v) in
     e ∙ same v (rw e at (c .if1 .left))
 
-cast-result : tie.Need-cast-result
-cast-result c =
-    let v = c .before .args .v in
-    rw (toZ-ofZ {w = w32} {z = v} (c .before .fits .v)) (sfits-widen tt (c .before .fits .v))
-
-add-result : tie.Need-add-result
-add-result c = rw (summed c) (record { sfits = omega (arith, unsigned-below 3 (c .before .args .v) (c .before .fits .v .sfits)) })
-
-cast-result-2 : tie.Need-cast-result-2
-cast-result-2 c =
-    rw (summed-back c) (tt, record { fits = unsigned-below 3 (c .before .args .v) (c .before .fits .v .sfits) })
-
-cast-result-3 : tie.Need-cast-result-3
-cast-result-3 c = rw (plain c) (tt, record { fits = unsigned-below 3 (c .before .args .v) (c .before .fits .v .sfits) })
-
 pub unsigned-spec : {M : Type 1} → statement M
 unsigned-spec =
-    tie.close (tie.spec cast-result add-result cast-result-2 cast-result-3 (λ c. rw (summed-back c)) (λ c. rw (plain c)))
+    tie.close
+    (tie.spec
+    (λ c.
+    let v = c .before .args .v in
+    rw (toZ-ofZ {w = w32} {z = v} (c .before .fits .v)) (sfits-widen tt (c .before .fits .v)))
+    (λ c. rw (summed c) (record { sfits = omega (arith, unsigned-below 3 (c .before .args .v) (c .before .fits .v .sfits)) }))
+    (λ c. rw (summed-back c) (tt, record { fits = unsigned-below 3 (c .before .args .v) (c .before .fits .v .sfits) }))
+    (λ c. rw (plain c) (tt, record { fits = unsigned-below 3 (c .before .args .v) (c .before .fits .v .sfits) })) (λ c. rw (summed-back c))
+    (λ c. rw (plain c)))

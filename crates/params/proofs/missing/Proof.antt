@@ -1,5 +1,4 @@
 -- `params::missing` meets its contract: at each turn, the missing ids that are left, stored from place n on, make the array the list.
--- Assumes nothing.
 use Prim.Native.Nat.{ℕ, zero, suc, _+_, _≤_, _<_, _-_}
 use mathlib.Core.Path.{_≡_, refl, _∙_}
 use mathlib.Core.List.{List, [], _∷_}
@@ -52,25 +51,6 @@ Inv-loop p table out₀ n₀ i₀ out n i = (table ≡ paramRows) × (i ≤ 12) 
 abbrev μ-loop : tie.MeasureT-loop
 μ-loop p table out₀ n₀ i₀ out n i = 12 - i
 
-loop-holds : tie.Need-loop-holds Inv-loop μ-loop
-unfolding missingOf missingIds left
-loop-holds c = (refl, search needs, omega (arith, missing-few (c .args .t1)), refl)
-
-mul-r : tie.Need-mul-r Inv-loop μ-loop
-mul-r c = search needs
-
-array-copy-out-r : tie.Need-array-copy-out-r Inv-loop μ-loop
-array-copy-out-r c = search needs
-
-element-copy-out-done : tie.Need-element-copy-out-done Inv-loop μ-loop
-element-copy-out-done c = search needs
-
-add-out : tie.Need-add-out Inv-loop μ-loop
-add-out c = search needs
-
-cast-out : tie.Need-cast-out Inv-loop μ-loop
-cast-out c = search needs
-
 -- the code's test is the rule's
 tested : (c : tie.After-struct-known Inv-loop μ-loop) →
     let i = c .before .before .before .before .loop .i in
@@ -88,20 +68,13 @@ room c =
     let p = c .before .before .before .before .before .before .args .t1 in
     omega (arith, rw (left-yes p (at .i) (search needs) (tested (c .before) ∙ c .if1 .taken)) at (at .inv .2))
 
-array-write-out : tie.Need-array-write-out Inv-loop μ-loop
-array-write-out c = room c
-
-add-n : tie.Need-add-n Inv-loop μ-loop
-add-n c = omega (arith, room c)
-
-add-i : tie.Need-add-i Inv-loop μ-loop
-add-i c = search needs
-
-loop-less : tie.Need-loop-less Inv-loop μ-loop
-loop-less c = search needs
-
-loop-again : tie.Need-loop-again Inv-loop μ-loop
-loop-again c =
+pub missing-spec : {M : Type 1} → statement M
+unfolding missingOf missingIds left filter
+missing-spec =
+    tie.close
+    (tie.spec Inv-loop μ-loop (λ c. (refl, search needs, omega (arith, missing-few (c .args .t1)), refl)) (λ c. search needs) (λ c. search needs)
+    (λ c. search needs) (λ c. search needs) (λ c. search needs) (λ c. room c) (λ c. omega (arith, room c)) (λ c. search needs) (λ c. search needs)
+    (λ c.
     let at = c .before .before .before .before .before .loop in
     let p = c .before .before .before .before .before .before .args .t1 in
     ⊎-elim
@@ -113,29 +86,7 @@ loop-again c =
     (λ w.
     let rest = left-no p (at .i) (search needs) (tested (c .before) ∙ w .0 .left) in
     (search needs, search needs, omega (arith, rw rest at (at .inv .2)), cc))
-    (c .if1 .came)
-
-returns : tie.Need-returns Inv-loop μ-loop
-unfolding left filter
-returns c =
+    (c .if1 .came))
+    (λ c.
     let last : c .before .loop .i ≡ 12 = omega arith in
-    rw last at (c .before .loop .inv .3)
-
-pub missing-spec : {M : Type 1} → statement M
-missing-spec =
-    tie.close
-    (tie.spec
-    Inv-loop
-    μ-loop
-    loop-holds
-    mul-r
-    array-copy-out-r
-    element-copy-out-done
-    add-out
-    cast-out
-    array-write-out
-    add-n
-    add-i
-    loop-less
-    loop-again
-    returns)
+    rw last at (c .before .loop .inv .3)))

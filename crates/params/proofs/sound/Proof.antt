@@ -1,5 +1,4 @@
 -- `params::sound` meets its contract: at each turn, the flag and the rows that are left decide together what all the rows decide.
--- Assumes nothing.
 use Prim.Native.Nat.{ℕ, _+_, _≤_, _<_, _-_}
 use mathlib.Core.Path.{_≡_, sym}
 use mathlib.Core.Bool.{Bool, _&&_, and-assoc, and-true}
@@ -34,65 +33,22 @@ Inv-loop p table ok₀ i₀ ok i = (table ≡ paramRows) × (i ≤ 12) × (ok &&
 abbrev μ-loop : tie.MeasureT-loop
 μ-loop p table ok₀ i₀ ok i = 12 - i
 
-loop-holds : tie.Need-loop-holds Inv-loop μ-loop
-loop-holds c = search needs
-
-mul-v : tie.Need-mul-v Inv-loop μ-loop
-mul-v c = search needs
-
-element-copy-out-v : tie.Need-element-copy-out-v Inv-loop μ-loop
-element-copy-out-v c = search needs
-
-mul-r : tie.Need-mul-r Inv-loop μ-loop
-mul-r c = search needs
-
-array-copy-out-r : tie.Need-array-copy-out-r Inv-loop μ-loop
-array-copy-out-r c = search needs
-
-in-row-requires : tie.Need-in-row-requires Inv-loop μ-loop
-in-row-requires c κs = search needs
-
-add-i : tie.Need-add-i Inv-loop μ-loop
-add-i c = search needs
-
-loop-less : tie.Need-loop-less Inv-loop μ-loop
-loop-less c = search needs
-
-loop-again : tie.Need-loop-again Inv-loop μ-loop
-loop-again c =
+pub sound-spec : {M : Type 1} → statement M
+unfolding soundParams
+sound-spec =
+    tie.close
+    (tie.spec Inv-loop μ-loop (λ c. search needs) (λ c. search needs) (λ c. search needs) (λ c. search needs) (λ c. search needs)
+    (λ c κs. search needs) (λ c. search needs) (λ c. search needs)
+    (λ c.
     let at = c .before .before .before .before .loop in
     let vs = c .before .before .before .before .before .args .t1 .values in
     let back : toZ w32 (ofZ w32 (getD vs (at .i) (pos 0))) ≡ getD vs (at .i) (pos 0) = search needs in
     let turn = next (at .ok) vs (at .i) (search needs) (search needs) in
-    (search needs, search needs, cc)
-
-in-span-requires : tie.Need-in-span-requires Inv-loop μ-loop
-in-span-requires c κs = search needs
-
-returns : tie.Need-returns Inv-loop μ-loop
-unfolding soundParams
-returns c =
+    (search needs, search needs, cc)) (λ c κs. search needs)
+    (λ c.
     let at = c .before .before .loop in
     let vs = c .before .before .before .args .t1 .values in
     let last : at .i ≡ 12 = omega arith in
     let twelve : length vs ≤ 12 = omega (arith, length-map vs (λ v. v), c .before .before .before .good .0 .1 .1 .0 .1 .0 .1) in
     let all = end (at .ok) vs twelve in
-    cc
-
-pub sound-spec : {M : Type 1} → statement M
-sound-spec =
-    tie.close
-    (tie.spec
-    Inv-loop
-    μ-loop
-    loop-holds
-    mul-v
-    element-copy-out-v
-    mul-r
-    array-copy-out-r
-    in-row-requires
-    add-i
-    loop-less
-    loop-again
-    in-span-requires
-    returns)
+    cc))

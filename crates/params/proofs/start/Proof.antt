@@ -1,5 +1,4 @@
 -- `params::start` meets its contract: at each turn, what is left of the starts, stored from place i on, makes the array the starts.
--- Assumes nothing.
 use Prim.Native.Nat.{ℕ, suc, _≤_, _<_, _-_}
 use mathlib.Core.Path.{_≡_}
 use mathlib.Core.List.{_∷_}
@@ -28,54 +27,18 @@ Inv-loop table values₀ i₀ values i = (table ≡ paramRows) × (i ≤ 12) × 
 abbrev μ-loop : tie.MeasureT-loop
 μ-loop table values₀ i₀ values i = 12 - i
 
-loop-holds : tie.Need-loop-holds Inv-loop μ-loop
+pub start-spec : {M : Type 1} → statement M
 unfolding startParams
-loop-holds c = search needs
-
-mul-r : tie.Need-mul-r Inv-loop μ-loop
-mul-r c = search needs
-
-array-copy-out-r : tie.Need-array-copy-out-r Inv-loop μ-loop
-array-copy-out-r c = search needs
-
-mul-values : tie.Need-mul-values Inv-loop μ-loop
-mul-values c = search needs
-
-array-set-from-values : tie.Need-array-set-from-values Inv-loop μ-loop
-array-set-from-values c = search needs
-
-add-i : tie.Need-add-i Inv-loop μ-loop
-add-i c = search needs
-
-loop-less : tie.Need-loop-less Inv-loop μ-loop
-loop-less c = search needs
-
-loop-again : tie.Need-loop-again Inv-loop μ-loop
-loop-again c =
+start-spec =
+    tie.close
+    (tie.spec Inv-loop μ-loop (λ c. search needs) (λ c. search needs) (λ c. search needs) (λ c. search needs) (λ c. search needs) (λ c. search needs)
+    (λ c. search needs)
+    (λ c.
     let at = c .before .before .before .loop in
     let r = getD paramRows (at .i) noParamRow in
     let back : toZ w32 (ofZ w32 (r .start)) ≡ r .start = search needs in
     let turn = rw (next (at .i) (search needs)) at (at .inv .2) in
-    (search needs, search needs, rw add-one (cc))
-
-returns : tie.Need-returns Inv-loop μ-loop
-unfolding startParams
-returns c =
+    (search needs, search needs, rw add-one (cc)))
+    (λ c.
     let end : c .before .loop .i ≡ 12 = omega arith in
-    rw (rw end at (c .before .loop .inv .2))
-
-pub start-spec : {M : Type 1} → statement M
-start-spec =
-    tie.close
-    (tie.spec
-    Inv-loop
-    μ-loop
-    loop-holds
-    mul-r
-    array-copy-out-r
-    mul-values
-    array-set-from-values
-    add-i
-    loop-less
-    loop-again
-    returns)
+    rw (rw end at (c .before .loop .inv .2))))

@@ -9,33 +9,6 @@ use Rattle.tables.specs.Port.{Tabled, tabled, desk, commandOf}
 use Rattle.show_tables.proofs.accepted.Statement.{statement}
 use Rattle.show_tables.proofs.accepted.Tie as tie
 
-slice-aggregate-to-starts : tie.Need-slice-aggregate-to-starts
-slice-aggregate-to-starts c = search needs
-
-slice-aggregate-to-starts-2 : tie.Need-slice-aggregate-to-starts-2
-slice-aggregate-to-starts-2 c = search needs
-
-slice-aggregate-to-starts-3 : tie.Need-slice-aggregate-to-starts-3
-slice-aggregate-to-starts-3 c = search needs
-
-to-starts-requires : tie.Need-to-starts-requires
-to-starts-requires c κs = search needs
-
-start-words-requires : tie.Need-start-words-requires
-start-words-requires c κs = search needs
-
-slice-aggregate-command : tie.Need-slice-aggregate-command
-slice-aggregate-command c = search needs
-
-slice-aggregate-command-2 : tie.Need-slice-aggregate-command-2
-slice-aggregate-command-2 c = search needs
-
-slice-aggregate-command-3 : tie.Need-slice-aggregate-command-3
-slice-aggregate-command-3 c = search needs
-
-command-requires : tie.Need-command-requires
-command-requires c κs = search needs
-
 returns : tie.Need-returns
 returns c =
     let m = c .before .before .before .before in
@@ -47,15 +20,5 @@ returns c =
 
 pub accepted-spec : {M : Type 1} → statement M
 accepted-spec =
-    tie.close
-    (tie.spec
-    slice-aggregate-to-starts
-    slice-aggregate-to-starts-2
-    slice-aggregate-to-starts-3
-    to-starts-requires
-    start-words-requires
-    slice-aggregate-command
-    slice-aggregate-command-2
-    slice-aggregate-command-3
-    command-requires
-    returns)
+    tie.close (tie.spec (λ c. search needs) (λ c. search needs) (λ c. search needs) (λ c κs. search needs) (λ c κs. search needs) (λ c. search needs)
+    (λ c. search needs) (λ c. search needs) (λ c κs. search needs) returns)

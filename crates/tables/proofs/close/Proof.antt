@@ -8,22 +8,13 @@ use mathlib.Core.Bool.{Bool·not-not}
 use Rattle.tables.proofs.close.Statement.{statement}
 use Rattle.tables.proofs.close.Tie as tie
 
-idle-requires : tie.Need-idle-requires
-idle-requires c κs = search needs
-
-with-error-requires : tie.Need-with-error-requires
-with-error-requires c κs = search needs
-
-with-transfer-requires : tie.Need-with-transfer-requires
-with-transfer-requires c κs = search needs
-
-returns : tie.Need-returns
+pub close-spec : {M : Type 1} → statement M
 unfolding closeOf
-returns c =
+close-spec =
+    tie.close
+    (tie.spec (λ c κs. search needs) (λ c κs. search needs) (λ c κs. search needs)
+    (λ c.
     let w = c .before .before .before .before .args .w in
     let shown = ap not (c .before .before .before .idle .ensures) ∙ Bool·not-not (isOpen (w .transfer)) in
     c .with-transfer .ensures
-    ∙ ap (withTransfer Idle) (c .before .with-error .ensures ∙ ap (λ (b : Bool). withError (w .error || b) w) shown)
-
-pub close-spec : {M : Type 1} → statement M
-close-spec = tie.close (tie.spec idle-requires with-error-requires with-transfer-requires returns)
+    ∙ ap (withTransfer Idle) (c .before .with-error .ensures ∙ ap (λ (b : Bool). withError (w .error || b) w) shown)))

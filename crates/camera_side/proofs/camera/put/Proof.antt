@@ -29,16 +29,6 @@ returns-2 c =
 pub put-spec : {M : Type 1} → statement M
 unfolding putCall answerSaid
 put-spec =
-    tie.close
-    (tie.spec
-    (λ c κs. search needs)
-    (λ c. search needs)
-    (λ c. search needs)
-    (λ c κs. search needs)
-    (λ c κs. search needs)
-    put-requires
-    (λ c κs. search needs)
-    (λ c. search needs)
-    (λ c. refused-is _ _ _ (rw (c .before .gate .given .1) at (c .before .before .before .put-gate .ensures)))
-    (λ c. search needs)
-    returns-2)
+    tie.close (tie.spec (λ c κs. search needs) (λ c. search needs) (λ c. search needs) (λ c κs. search needs) (λ c κs. search needs) put-requires
+    (λ c κs. search needs) (λ c. search needs)
+    (λ c. refused-is _ _ _ (rw (c .before .gate .given .1) at (c .before .before .before .put-gate .ensures))) (λ c. search needs) returns-2)

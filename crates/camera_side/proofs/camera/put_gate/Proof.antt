@@ -64,15 +64,5 @@ returns-6 c =
 pub put-gate-spec : {M : Type 1} → statement M
 unfolding refusalNumber
 put-gate-spec =
-    tie.close
-    (tie.spec
-    (λ c κs. search needs)
-    (λ c. here (as-row (c .before .sized .ensures) (c .if1 .taken)))
-    (λ c κs. search needs)
-    returns-2
-    returns-3
-    returns-4
-    (λ c κs. search needs)
-    (λ c κs. search needs)
-    returns-5
-    returns-6)
+    tie.close (tie.spec (λ c κs. search needs) (λ c. here (as-row (c .before .sized .ensures) (c .if1 .taken))) (λ c κs. search needs) returns-2
+    returns-3 returns-4 (λ c κs. search needs) (λ c κs. search needs) returns-5 returns-6)

@@ -7,11 +7,6 @@ use borrow.Author.Needs.{needs}
 use Rattle.camera_side.proofs.survey.samples.Statement.{statement}
 use Rattle.camera_side.proofs.survey.samples.Tie as tie
 
-two-frames-requires : tie.Need-two-frames-requires
-two-frames-requires c κs =
-    let e = c .before in
-    samples-fit _ _ _ (rw (e .enum-told .given .1) at (e .before .before .samples-gate .ensures))
-
 returns-2 : tie.Need-returns-2
 unfolding samplesCall answerSaid
 returns-2 c =
@@ -21,11 +16,6 @@ returns-2 c =
 pub samples-spec : {M : Type 1} → statement M
 unfolding samplesCall answerSaid
 samples-spec =
-    tie.close
-    (tie.spec
-    (λ c κs. search needs)
-    (λ c. search needs)
-    (λ c. search needs)
-    two-frames-requires
-    (λ c. refused-is _ _ _ (rw (c .before .gate .given .1) at (c .before .before .before .samples-gate .ensures)))
-    returns-2)
+    tie.close (tie.spec (λ c κs. search needs) (λ c. search needs) (λ c. search needs)
+    (λ c κs. let e = c .before in samples-fit _ _ _ (rw (e .enum-told .given .1) at (e .before .before .samples-gate .ensures)))
+    (λ c. refused-is _ _ _ (rw (c .before .gate .given .1) at (c .before .before .before .samples-gate .ensures))) returns-2)

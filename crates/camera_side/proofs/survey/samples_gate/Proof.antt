@@ -9,12 +9,6 @@ use borrow.Author.Needs.{needs}
 use Rattle.camera_side.proofs.survey.samples_gate.Statement.{statement}
 use Rattle.camera_side.proofs.survey.samples_gate.Tie as tie
 
-returns-2 : tie.Need-returns-2
-unfolding refusalNumber
-returns-2 c =
-    let e1 = c .before in
-    after (as-row (e1 .before .sound .ensures) (e1 .if1 .left)) (here (ap not (ne-eqb _ _ (c .if2 .taken))))
-
 returns-3 : tie.Need-returns-3
 unfolding refusalNumber
 returns-3 c =
@@ -31,11 +25,6 @@ returns-4 c =
 pub samples-gate-spec : {M : Type 1} → statement M
 unfolding refusalNumber
 samples-gate-spec =
-    tie.close
-    (tie.spec
-    (λ c κs. search needs)
-    (λ c. here (as-row (c .before .sound .ensures) (c .if1 .taken)))
-    returns-2
-    (λ c κs. search needs)
-    returns-3
-    returns-4)
+    tie.close (tie.spec (λ c κs. search needs) (λ c. here (as-row (c .before .sound .ensures) (c .if1 .taken)))
+    (λ c. let e1 = c .before in after (as-row (e1 .before .sound .ensures) (e1 .if1 .left)) (here (ap not (ne-eqb _ _ (c .if2 .taken)))))
+    (λ c κs. search needs) returns-3 returns-4)

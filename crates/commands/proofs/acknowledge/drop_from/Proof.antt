@@ -39,14 +39,6 @@ returns-2 c =
 pub drop-from-spec : {M : Type 1} → statement M
 unfolding dropFrom
 drop-from-spec =
-    tie.close
-    (tie.spec
-    (λ c κs. search needs)
-    (λ c κs. search needs)
+    tie.close (tie.spec (λ c κs. search needs) (λ c κs. search needs)
     (λ c. let m = c .before in rw (rw (m .remaining-of .ensures, m .before .before .before .ring-of .ensures) at (c .if1 .taken)))
-    (λ c κs. search needs)
-    dropped-requires
-    one-less-requires
-    (λ c κs. search needs)
-    (λ c κs. search needs)
-    returns-2)
+    (λ c κs. search needs) dropped-requires one-less-requires (λ c κs. search needs) (λ c κs. search needs) returns-2)

@@ -6,11 +6,6 @@ use Rattle.commands.proofs.acknowledge.one_less.Tie as tie
 
 pub one-less-spec : {M : Type 1} → statement M
 one-less-spec =
-    tie.close
-    (tie.spec
-    (λ c. search needs)
-    (λ c. omega (arith, rw (c .before .enum-told .given .1) at (c .before .before .before .pre)))
-    (λ c. search needs)
-    (λ c. omega (arith, rw (c .before .enum-told2 .given .1) at (c .before .before .before .pre)))
-    (λ c. rw (c .before .enum-told .given .1))
-    (λ c. rw (c .before .enum-told2 .given .1)))
+    tie.close (tie.spec (λ c. search needs) (λ c. omega (arith, rw (c .before .enum-told .given .1) at (c .before .before .before .pre)))
+    (λ c. search needs) (λ c. omega (arith, rw (c .before .enum-told2 .given .1) at (c .before .before .before .pre)))
+    (λ c. rw (c .before .enum-told .given .1)) (λ c. rw (c .before .enum-told2 .given .1)))

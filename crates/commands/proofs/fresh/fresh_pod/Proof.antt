@@ -7,12 +7,5 @@ use Rattle.commands.proofs.fresh.fresh_pod.Tie as tie
 pub fresh-pod-spec : {M : Type 1} → statement M
 unfolding freshPod
 fresh-pod-spec =
-    tie.close
-    (tie.spec
-    (λ c κs. search needs)
-    (λ c κs. search needs)
-    (λ c κs. search needs)
-    (λ c κs. search needs)
-    (λ c κs. search needs)
-    (λ c κs. search needs)
-    (λ c. cc))
+    tie.close (tie.spec (λ c κs. search needs) (λ c κs. search needs) (λ c κs. search needs) (λ c κs. search needs) (λ c κs. search needs)
+    (λ c κs. search needs) (λ c. cc))

@@ -17,12 +17,6 @@ returns-2 c l =
 pub initialise-spec : {M : Type 1} → statement M
 unfolding obeyOf checksOf replySaid
 initialise-spec =
-    tie.close
-    (tie.spec
-    (λ c κs. search needs)
-    (λ c κs. search needs)
+    tie.close (tie.spec (λ c κs. search needs) (λ c κs. search needs)
     (λ c l. rw (c .replied .ensures) (refused-is _ _ _ (here (as-row (c .before .before .bounded .ensures) (c .before .if1 .taken)))))
-    (λ c κs. search needs)
-    (λ c κs. search needs)
-    (λ c κs. search needs)
-    returns-2)
+    (λ c κs. search needs) (λ c κs. search needs) (λ c κs. search needs) returns-2)

@@ -17,29 +17,10 @@ returns-4 c l =
 
 pub obey-spec : {M : Type 1} → statement M
 obey-spec =
-    tie.close
-    (tie.spec
-    (λ c. search needs)
-    (λ c κs. search needs)
-    (λ c. search needs)
-    (λ c κs. search needs)
-    (λ c. search needs)
-    (λ c κs. search needs)
-    (λ c. search needs)
-    (λ c κs. search needs)
-    (λ c. search needs)
-    (λ c κs. search needs)
-    (λ c. search needs)
-    (λ c κs. search needs)
-    (λ c. search needs)
-    (λ c κs. search needs)
-    (λ c. search needs)
-    (λ c κs. search needs)
-    (λ c. rw (c .before .before .command .given .1) (c .initialise .ensures))
-    (λ c. rw (c .before .enum-told .given .1) (c .status .ensures))
-    (λ c. rw (c .before .before .command2 .given .1) (c .update .ensures))
-    returns-4
-    (λ c. rw (c .before .before .command4 .given .1) (c .read .ensures))
-    (λ c. rw (c .before .enum-told2 .given .1) (c .receive .ensures))
-    (λ c. rw (c .before .enum-told3 .given .1) (c .receive2 .ensures))
-    (λ c. rw (c .before .enum-told4 .given .1) (c .shutdown .ensures)))
+    tie.close (tie.spec (λ c. search needs) (λ c κs. search needs) (λ c. search needs) (λ c κs. search needs) (λ c. search needs)
+    (λ c κs. search needs) (λ c. search needs) (λ c κs. search needs) (λ c. search needs) (λ c κs. search needs) (λ c. search needs)
+    (λ c κs. search needs) (λ c. search needs) (λ c κs. search needs) (λ c. search needs) (λ c κs. search needs)
+    (λ c. rw (c .before .before .command .given .1) (c .initialise .ensures)) (λ c. rw (c .before .enum-told .given .1) (c .status .ensures))
+    (λ c. rw (c .before .before .command2 .given .1) (c .update .ensures)) returns-4
+    (λ c. rw (c .before .before .command4 .given .1) (c .read .ensures)) (λ c. rw (c .before .enum-told2 .given .1) (c .receive .ensures))
+    (λ c. rw (c .before .enum-told3 .given .1) (c .receive2 .ensures)) (λ c. rw (c .before .enum-told4 .given .1) (c .shutdown .ensures)))

@@ -28,15 +28,6 @@ returns-3 c l =
 pub read-spec : {M : Type 1} → statement M
 unfolding obeyOf checksOf replySaid
 read-spec =
-    tie.close
-    (tie.spec
-    (λ c κs. search needs)
-    (λ c l. rw (c .replied .ensures) (refused-is _ _ _ (here (c .before .if1 .taken))))
-    (λ c κs. search needs)
-    (λ c. search needs)
-    (λ c κs. search needs)
-    (λ c. search needs)
-    (λ c κs. search needs)
-    (λ c κs. search needs)
-    returns-2
+    tie.close (tie.spec (λ c κs. search needs) (λ c l. rw (c .replied .ensures) (refused-is _ _ _ (here (c .before .if1 .taken))))
+    (λ c κs. search needs) (λ c. search needs) (λ c κs. search needs) (λ c. search needs) (λ c κs. search needs) (λ c κs. search needs) returns-2
     returns-3)

@@ -1,5 +1,4 @@
 -- `commands::obeying::receive` meets its contract: by the checks of either store. Assumes nothing.
-use mathlib.Core.Path.{_≡_, sym, ap, _∙_}
 use borrow.Author.Tests.{eq-eqb, ne-eqb}
 use Rattle.rows.specs.Rows.{here, after, none, past}
 use Rattle.rows.proofs.Laws.{refused-is, given-is}
@@ -43,16 +42,6 @@ returns-4 c l =
 pub receive-spec : {M : Type 1} → statement M
 unfolding replySaid
 receive-spec =
-    tie.close
-    (tie.spec
-    (λ c κs. search needs)
-    (λ c l. rw (c .replied .ensures, receive-is) (refused-is _ _ _ (here (c .before .if1 .taken))))
-    (λ c κs. search needs)
-    (λ c κs. search needs)
-    returns-2
-    (λ c κs. search needs)
-    (λ c κs. search needs)
-    returns-3
-    (λ c κs. search needs)
-    (λ c κs. search needs)
-    returns-4)
+    tie.close (tie.spec (λ c κs. search needs) (λ c l. rw (c .replied .ensures, receive-is) (refused-is _ _ _ (here (c .before .if1 .taken))))
+    (λ c κs. search needs) (λ c κs. search needs) returns-2 (λ c κs. search needs) (λ c κs. search needs) returns-3 (λ c κs. search needs)
+    (λ c κs. search needs) returns-4)

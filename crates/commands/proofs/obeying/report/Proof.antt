@@ -7,11 +7,6 @@ use borrow.Author.Needs.{needs}
 use Rattle.commands.proofs.obeying.report.Statement.{statement}
 use Rattle.commands.proofs.obeying.report.Tie as tie
 
-cast-t4 : tie.Need-cast-t4
-cast-t4 c =
-    let s = c .before .before .before in
-    omega (arith, bounds 16 (s .args .pod .priority) (pod-in (s .args .pod) (s .pre) .priority) .1)
-
 cast-t5 : tie.Need-cast-t5
 cast-t5 c =
     let s = c .before .before .before .before in
@@ -19,4 +14,7 @@ cast-t5 c =
 
 pub report-spec : {M : Type 1} → statement M
 unfolding reportOf
-report-spec = tie.close (tie.spec (λ c κs. search needs) cast-t4 cast-t5 (λ c. rw (c .before .before .missing .ensures)))
+report-spec =
+    tie.close (tie.spec (λ c κs. search needs)
+    (λ c. let s = c .before .before .before in omega (arith, bounds 16 (s .args .pod .priority) (pod-in (s .args .pod) (s .pre) .priority) .1))
+    cast-t5 (λ c. rw (c .before .before .missing .ensures)))

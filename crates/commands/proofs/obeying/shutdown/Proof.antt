@@ -16,12 +16,5 @@ returns-2 c l =
 pub shutdown-spec : {M : Type 1} → statement M
 unfolding obeyOf checksOf replySaid
 shutdown-spec =
-    tie.close
-    (tie.spec
-    (λ c κs. search needs)
-    (λ c l. rw (c .replied .ensures) (refused-is _ _ _ (here (c .before .if1 .taken))))
-    (λ c κs. search needs)
-    (λ c κs. search needs)
-    (λ c κs. search needs)
-    (λ c κs. search needs)
-    returns-2)
+    tie.close (tie.spec (λ c κs. search needs) (λ c l. rw (c .replied .ensures) (refused-is _ _ _ (here (c .before .if1 .taken))))
+    (λ c κs. search needs) (λ c κs. search needs) (λ c κs. search needs) (λ c κs. search needs) returns-2)

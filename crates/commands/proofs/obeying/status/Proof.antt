@@ -9,10 +9,6 @@ use Rattle.commands.proofs.obeying.status.Tie as tie
 pub status-spec : {M : Type 1} → statement M
 unfolding obeyOf checksOf replySaid doneBy
 status-spec =
-    tie.close
-    (tie.spec
-    (λ c κs. search needs)
-    (λ c l. rw (c .replied .ensures) (refused-is _ _ _ (here (c .before .if1 .taken))))
-    (λ c κs. search needs)
-    (λ c κs. search needs)
+    tie.close (tie.spec (λ c κs. search needs) (λ c l. rw (c .replied .ensures) (refused-is _ _ _ (here (c .before .if1 .taken))))
+    (λ c κs. search needs) (λ c κs. search needs)
     (λ c l. rw (c .replied2 .ensures, c .before .with-exchange .ensures) (given-is _ _ _ (past (c .before .before .if1 .left) none))))

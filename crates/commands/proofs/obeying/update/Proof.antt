@@ -24,13 +24,5 @@ returns-3 c l =
 pub update-spec : {M : Type 1} → statement M
 unfolding obeyOf checksOf replySaid
 update-spec =
-    tie.close
-    (tie.spec
-    (λ c κs. search needs)
-    (λ c l. rw (c .replied .ensures) (refused-is _ _ _ (here (c .before .if1 .taken))))
-    (λ c κs. search needs)
-    (λ c κs. search needs)
-    returns-2
-    (λ c κs. search needs)
-    (λ c κs. search needs)
-    returns-3)
+    tie.close (tie.spec (λ c κs. search needs) (λ c l. rw (c .replied .ensures) (refused-is _ _ _ (here (c .before .if1 .taken))))
+    (λ c κs. search needs) (λ c κs. search needs) returns-2 (λ c κs. search needs) (λ c κs. search needs) returns-3)

@@ -4,7 +4,6 @@ use mir.Syntax.{w32}
 use mir.Val.{toZ, ofZ}
 use Rattle.rows.specs.Rows.{here, after, none, past}
 use Rattle.rows.proofs.Laws.{refused-is, given-is}
-use Rattle.params.specs.Rules.{writeOf}
 use Rattle.rules.specs.Obey.{replySaid, checksOf, doneBy, obeyOf}
 use Rattle.commands.proofs.Values.{as-written, taken}
 use borrow.Author.Needs.{needs}
@@ -34,13 +33,5 @@ returns-3 c l =
 pub write-spec : {M : Type 1} → statement M
 unfolding obeyOf checksOf replySaid
 write-spec =
-    tie.close
-    (tie.spec
-    (λ c κs. search needs)
-    (λ c l. rw (c .replied .ensures) (refused-is _ _ _ (here (c .before .if1 .taken))))
-    (λ c κs. search needs)
-    (λ c κs. search needs)
-    returns-2
-    (λ c κs. search needs)
-    (λ c κs. search needs)
-    returns-3)
+    tie.close (tie.spec (λ c κs. search needs) (λ c l. rw (c .replied .ensures) (refused-is _ _ _ (here (c .before .if1 .taken))))
+    (λ c κs. search needs) (λ c κs. search needs) returns-2 (λ c κs. search needs) (λ c κs. search needs) returns-3)

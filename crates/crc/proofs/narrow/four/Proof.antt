@@ -1,5 +1,4 @@
 -- `crc::narrow::four` meets its contract: the upper two bytes, then the lower two.
--- Assumes nothing.
 use Rattle.crc.proofs.Bytes.{in-two}
 use borrow.Author.Needs.{needs}
 use Rattle.crc.proofs.narrow.four.Statement.{statement}

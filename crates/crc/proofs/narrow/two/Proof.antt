@@ -1,5 +1,4 @@
 -- `crc::narrow::two` meets its contract, by the law of its shifts.
--- Assumes nothing.
 use native.Mathlib.Omega.{arith}
 use Rattle.crc.proofs.Fold.{two-more}
 use Rattle.crc.proofs.narrow.two.Statement.{statement}

@@ -1,5 +1,4 @@
 -- `crc::wide::fold_of` meets its contract: the upper four bytes, then the lower four.
--- Assumes nothing.
 use Rattle.crc.proofs.Bytes.{in-two}
 use borrow.Author.Needs.{needs}
 use Rattle.crc.proofs.wide.fold_of.Statement.{statement}

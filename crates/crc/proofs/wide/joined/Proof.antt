@@ -1,5 +1,4 @@
 -- `crc::wide::joined` meets its contract: each byte is set behind those before it.
--- Assumes nothing.
 use Prim.Native.Nat.{ℕ, _+_, _*_}
 use native.Mathlib.Omega.{arith}
 use lib.Bits.{or-shifted}

@@ -9,18 +9,8 @@ use borrow.Author.Needs.{needs}
 use Rattle.items.proofs.parts.front.Statement.{statement}
 use Rattle.items.proofs.parts.front.Tie as tie
 
-slice-aggregate-result : tie.Need-slice-aggregate-result
-slice-aggregate-result c = sym (length-take-le _ _ (search needs))
-
-returns : tie.Need-returns
-returns c =
-    let a = c .before .before .args in
-    (refl, omega (arith, length-take-le (a .n) (now (a .text)) (omega arith)))
-
-returns-2 : tie.Need-returns-2
-returns-2 c =
-    let a = c .before .args in
-    (sym (take-all (a .n) (now (a .text)) (omega arith)), le-refl (length (now (a .text))))
-
 pub front-spec : {M : Type 1} → statement M
-front-spec = tie.close (tie.spec slice-aggregate-result returns returns-2)
+front-spec =
+    tie.close (tie.spec (λ c. sym (length-take-le _ _ (search needs)))
+    (λ c. let a = c .before .before .args in (refl, omega (arith, length-take-le (a .n) (now (a .text)) (omega arith))))
+    (λ c. let a = c .before .args in (sym (take-all (a .n) (now (a .text)) (omega arith)), le-refl (length (now (a .text))))))

@@ -7,16 +7,7 @@ use borrow.Author.Needs.{needs}
 use Rattle.items.proofs.parts.front_words.Statement.{statement}
 use Rattle.items.proofs.parts.front_words.Tie as tie
 
-slice-aggregate-result : tie.Need-slice-aggregate-result
-slice-aggregate-result c = sym (length-take-le _ _ (search needs))
-
-returns : tie.Need-returns
-returns c = search needs
-
-returns-2 : tie.Need-returns-2
-returns-2 c =
-    let a = c .before .args in
-    sym (take-all (a .n) (now (a .words)) (omega arith))
-
 pub front-words-spec : {M : Type 1} → statement M
-front-words-spec = tie.close (tie.spec slice-aggregate-result returns returns-2)
+front-words-spec =
+    tie.close (tie.spec (λ c. sym (length-take-le _ _ (search needs))) (λ c. search needs)
+    (λ c. let a = c .before .args in sym (take-all (a .n) (now (a .words)) (omega arith))))

@@ -12,38 +12,11 @@ use borrow.Author.Needs.{needs}
 use Rattle.items.proofs.printing.bytes_line.Statement.{statement}
 use Rattle.items.proofs.printing.bytes_line.Tie as tie
 
-slice-aggregate-append : tie.Need-slice-aggregate-append
-slice-aggregate-append c = search needs
-
-append-requires : tie.Need-append-requires
-append-requires c κs = search needs
-
-same-length : tie.Need-same-length
-same-length c = search needs
-
 returns : tie.Need-returns
 returns c =
     let a = c .before .before .before .before .before .before .before .before .args in
     let e = c .before .before .append .ensures in
     rw (none-line (a .letter) (now (a .bytes)) (c .before .before .before .before .before .if1 .taken)) (e .0, (e .1, omega (arith, e .0)))
-
-slice-aggregate-append-2 : tie.Need-slice-aggregate-append-2
-slice-aggregate-append-2 c = search needs
-
-append-requires-2 : tie.Need-append-requires-2
-append-requires-2 c κs = search needs
-
-put-items-requires : tie.Need-put-items-requires
-put-items-requires c κs = search needs
-
-slice-aggregate-append-3 : tie.Need-slice-aggregate-append-3
-slice-aggregate-append-3 c = search needs
-
-append-requires-3 : tie.Need-append-requires-3
-append-requires-3 c κs = search needs
-
-same-length-2 : tie.Need-same-length-2
-same-length-2 c = search needs
 
 returns-2 : tie.Need-returns-2
 returns-2 c =
@@ -66,16 +39,5 @@ returns-2 c =
 
 pub bytes-line-spec : {M : Type 1} → statement M
 bytes-line-spec =
-    tie.close
-    (tie.spec
-    slice-aggregate-append
-    append-requires
-    same-length
-    returns
-    slice-aggregate-append-2
-    append-requires-2
-    put-items-requires
-    slice-aggregate-append-3
-    append-requires-3
-    same-length-2
-    returns-2)
+    tie.close (tie.spec (λ c. search needs) (λ c κs. search needs) (λ c. search needs) returns (λ c. search needs) (λ c κs. search needs)
+    (λ c κs. search needs) (λ c. search needs) (λ c κs. search needs) (λ c. search needs) returns-2)

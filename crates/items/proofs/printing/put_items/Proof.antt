@@ -21,33 +21,6 @@ Inv-loop out₀ at bytes to₀ i₀ out to i =
 abbrev μ-loop : tie.MeasureT-loop
 μ-loop out₀ at bytes to₀ i₀ out to i = length bytes - i
 
-loop-holds : tie.Need-loop-holds Inv-loop μ-loop
-loop-holds c = (omega arith, omega arith, refl, refl)
-
-shared-slice-read-byte : tie.Need-shared-slice-read-byte Inv-loop μ-loop
-shared-slice-read-byte c = omega arith
-
-byte-requires : tie.Need-byte-requires Inv-loop μ-loop
-byte-requires c κs = search needs
-
-array-read-t12 : tie.Need-array-read-t12 Inv-loop μ-loop
-array-read-t12 c = search needs
-
-array-read-t17 : tie.Need-array-read-t17 Inv-loop μ-loop
-array-read-t17 c = search needs
-
-slice-aggregate-append : tie.Need-slice-aggregate-append Inv-loop μ-loop
-slice-aggregate-append c = refl
-
-append-requires : tie.Need-append-requires Inv-loop μ-loop
-append-requires c κs = omega arith
-
-add-i : tie.Need-add-i Inv-loop μ-loop
-add-i c = omega arith
-
-loop-less : tie.Need-loop-less Inv-loop μ-loop
-loop-less c = omega arith
-
 loop-again : tie.Need-loop-again Inv-loop μ-loop
 loop-again c =
     let l = c .before .before .before .before .before .before .before .before .loop in
@@ -69,9 +42,6 @@ loop-again c =
           ∙ l .inv .3,
     )
 
-same-length : tie.Need-same-length Inv-loop μ-loop
-same-length c = c .before .loop .inv .2
-
 returns : tie.Need-returns Inv-loop μ-loop
 returns c =
     let l = c .before .loop in
@@ -83,19 +53,5 @@ returns c =
 
 pub put-items-spec : {M : Type 1} → statement M
 put-items-spec =
-    tie.close
-    (tie.spec
-    Inv-loop
-    μ-loop
-    loop-holds
-    shared-slice-read-byte
-    byte-requires
-    array-read-t12
-    array-read-t17
-    slice-aggregate-append
-    append-requires
-    add-i
-    loop-less
-    loop-again
-    same-length
-    returns)
+    tie.close (tie.spec Inv-loop μ-loop (λ c. (omega arith, omega arith, refl, refl)) (λ c. omega arith) (λ c κs. search needs) (λ c. search needs)
+    (λ c. search needs) (λ c. refl) (λ c κs. omega arith) (λ c. omega arith) (λ c. omega arith) loop-again (λ c. c .before .loop .inv .2) returns)

@@ -10,30 +10,6 @@ use borrow.Author.Needs.{needs}
 use Rattle.items.proofs.printing.word_line.Statement.{statement}
 use Rattle.items.proofs.printing.word_line.Tie as tie
 
-word-requires : tie.Need-word-requires
-word-requires c κs = search needs
-
-array-read-t12 : tie.Need-array-read-t12
-array-read-t12 c = search needs
-
-array-read-t15 : tie.Need-array-read-t15
-array-read-t15 c = search needs
-
-array-read-t18 : tie.Need-array-read-t18
-array-read-t18 c = search needs
-
-array-read-t21 : tie.Need-array-read-t21
-array-read-t21 c = search needs
-
-slice-aggregate-append : tie.Need-slice-aggregate-append
-slice-aggregate-append c = search needs
-
-append-requires : tie.Need-append-requires
-append-requires c κs = search needs
-
-same-length : tie.Need-same-length
-same-length c = search needs
-
 returns : tie.Need-returns
 unfolding wordLine
 returns c =
@@ -47,14 +23,5 @@ returns c =
 
 pub word-line-spec : {M : Type 1} → statement M
 word-line-spec =
-    tie.close
-    (tie.spec
-    word-requires
-    array-read-t12
-    array-read-t15
-    array-read-t18
-    array-read-t21
-    slice-aggregate-append
-    append-requires
-    same-length
-    returns)
+    tie.close (tie.spec (λ c κs. search needs) (λ c. search needs) (λ c. search needs) (λ c. search needs) (λ c. search needs) (λ c. search needs)
+    (λ c κs. search needs) (λ c. search needs) returns)

@@ -17,33 +17,6 @@ Inv-loop text bytes₀ n₀ i₀ bytes n i =
 abbrev μ-loop : tie.MeasureT-loop
 μ-loop text bytes₀ n₀ i₀ bytes n i = length text - i
 
-loop-holds : tie.Need-loop-holds Inv-loop μ-loop
-loop-holds c = (search needs, search needs, refl, refl)
-
-sub-loop : tie.Need-sub-loop Inv-loop μ-loop
-sub-loop c = search needs
-
-shared-slice-read-byte-item : tie.Need-shared-slice-read-byte-item Inv-loop μ-loop
-shared-slice-read-byte-item c = search needs
-
-add-byte-item : tie.Need-add-byte-item Inv-loop μ-loop
-add-byte-item c = search needs
-
-shared-slice-read-byte-item-2 : tie.Need-shared-slice-read-byte-item-2 Inv-loop μ-loop
-shared-slice-read-byte-item-2 c = search needs
-
-add-byte-item-2 : tie.Need-add-byte-item-2 Inv-loop μ-loop
-add-byte-item-2 c = search needs
-
-shared-slice-read-byte-item-3 : tie.Need-shared-slice-read-byte-item-3 Inv-loop μ-loop
-shared-slice-read-byte-item-3 c = search needs
-
-byte-item-requires : tie.Need-byte-item-requires Inv-loop μ-loop
-byte-item-requires c κs = search needs
-
-same-length : tie.Need-same-length Inv-loop μ-loop
-same-length c = c .before .before .before .before .before .before .loop .inv .2
-
 returns : tie.Need-returns Inv-loop μ-loop
 returns c =
     let l = c .before .before .before .before .before .before .loop in
@@ -54,27 +27,11 @@ returns c =
     bad-end (now (a .bytes)) (l .bytes) (l .n) (bytesIn (drop (l .i) (now (a .text)))) (bytesIn (now (a .text))) (l .inv .3)
     (byte-off (now (a .text)) (l .i) h off)
 
-cast-bytes : tie.Need-cast-bytes Inv-loop μ-loop
-cast-bytes c = search needs
-
-slice-write-bytes : tie.Need-slice-write-bytes Inv-loop μ-loop
-slice-write-bytes c = omega arith
-
-add-n : tie.Need-add-n Inv-loop μ-loop
-add-n c = search needs
-
-add-i : tie.Need-add-i Inv-loop μ-loop
-add-i c = search needs
-
-loop-less : tie.Need-loop-less Inv-loop μ-loop
-loop-less c = search needs
-
 loop-again : tie.Need-loop-again Inv-loop μ-loop
 loop-again c =
     let l = c .before .before .before .before .before .before .loop in
     let a = c .before .before .before .before .before .before .before .before .before .args in
     let t = now (a .text) in
-    let v = c .before .byte-item .result in
     let h : l .i + 3 ≤ length t = omega arith in
     let on : byteItem (getD t (l .i) 0) (getD t (l .i + 1) 0) (getD t (l .i + 2) 0) < 256 = omega (arith, c .before .byte-item .ensures, c .if1 .left) in (
       h,
@@ -86,18 +43,12 @@ loop-again c =
           ∙ l .inv .3,
     )
 
-same-length-2 : tie.Need-same-length-2 Inv-loop μ-loop
-same-length-2 c = c .before .before .loop .inv .2
-
 returns-2 : tie.Need-returns-2 Inv-loop μ-loop
 returns-2 c =
     let l = c .before .before .loop in
     let a = c .before .before .before .before .before .args in
     let t = now (a .text) in
     good-end (now (a .bytes)) (l .bytes) (l .n) (bytesIn (drop (l .i) t)) (bytesIn t) (l .inv .3) (bytes-end t (l .i) (omega arith))
-
-same-length-3 : tie.Need-same-length-3 Inv-loop μ-loop
-same-length-3 c = c .before .before .loop .inv .2
 
 returns-3 : tie.Need-returns-3 Inv-loop μ-loop
 returns-3 c =
@@ -108,27 +59,8 @@ returns-3 c =
 
 pub bytes-in-spec : {M : Type 1} → statement M
 bytes-in-spec =
-    tie.close
-    (tie.spec
-    Inv-loop
-    μ-loop
-    loop-holds
-    sub-loop
-    shared-slice-read-byte-item
-    add-byte-item
-    shared-slice-read-byte-item-2
-    add-byte-item-2
-    shared-slice-read-byte-item-3
-    byte-item-requires
-    same-length
-    returns
-    cast-bytes
-    slice-write-bytes
-    add-n
-    add-i
-    loop-less
-    loop-again
-    same-length-2
-    returns-2
-    same-length-3
+    tie.close (tie.spec Inv-loop μ-loop (λ c. (search needs, search needs, refl, refl)) (λ c. search needs) (λ c. search needs) (λ c. search needs)
+    (λ c. search needs) (λ c. search needs) (λ c. search needs) (λ c κs. search needs)
+    (λ c. c .before .before .before .before .before .before .loop .inv .2) returns (λ c. search needs) (λ c. omega arith) (λ c. search needs)
+    (λ c. search needs) (λ c. search needs) loop-again (λ c. c .before .before .loop .inv .2) returns-2 (λ c. c .before .before .loop .inv .2)
     returns-3)

@@ -9,26 +9,6 @@ use borrow.Author.Needs.{needs}
 use Rattle.items.proofs.reading.pair.Statement.{statement}
 use Rattle.items.proofs.reading.pair.Tie as tie
 
-mul-both : tie.Need-mul-both
-mul-both c = search needs
-
-add-both : tie.Need-add-both
-add-both c = search needs
-
-mul-values : tie.Need-mul-values
-mul-values c = let x = c .args in omega (arith, and-le-r ((x .low * 256 + x .high) / 64) 771)
-
-add-values : tie.Need-add-values
-add-values c =
-    let both = c .args .low * 256 + c .args .high in
-    omega (arith, and-le-r both 3855, and-le-r (both / 64) 771)
-
-add-written : tie.Need-add-written
-add-written c = rw (values (c .args .high) (c .args .low) (omega arith) (omega arith)) (omega arith)
-
-add-written-2 : tie.Need-add-written-2
-add-written-2 c = rw (values (c .args .high) (c .args .low) (omega arith) (omega arith)) (omega arith)
-
 mul-written : tie.Need-mul-written
 mul-written c =
     let x = c .args in
@@ -48,12 +28,6 @@ returns c =
     let w = written (x .high) (x .low) hb lb in
     sym (unpaired (x .high) (x .low) hb lb (rw (v, w) at (c .if1 .taken)))
 
-mul-result : tie.Need-mul-result
-mul-result c = rw (values (c .before .args .high) (c .before .args .low) (omega arith) (omega arith)) (omega arith)
-
-add-result : tie.Need-add-result
-add-result c = rw (values (c .before .args .high) (c .before .args .low) (omega arith) (omega arith)) (omega arith)
-
 returns-2 : tie.Need-returns-2
 returns-2 c =
     let x = c .before .args in
@@ -65,17 +39,9 @@ returns-2 c =
 
 pub pair-spec : {M : Type 1} → statement M
 pair-spec =
-    tie.close
-    (tie.spec
-    mul-both
-    add-both
-    mul-values
-    add-values
-    add-written
-    add-written-2
-    mul-written
-    add-written-3
-    returns
-    mul-result
-    add-result
-    returns-2)
+    tie.close (tie.spec (λ c. search needs) (λ c. search needs) (λ c. let x = c .args in omega (arith, and-le-r ((x .low * 256 + x .high) / 64) 771))
+    (λ c. let both = c .args .low * 256 + c .args .high in omega (arith, and-le-r both 3855, and-le-r (both / 64) 771))
+    (λ c. rw (values (c .args .high) (c .args .low) (omega arith) (omega arith)) (omega arith))
+    (λ c. rw (values (c .args .high) (c .args .low) (omega arith) (omega arith)) (omega arith)) mul-written add-written-3 returns
+    (λ c. rw (values (c .before .args .high) (c .before .args .low) (omega arith) (omega arith)) (omega arith))
+    (λ c. rw (values (c .before .args .high) (c .before .args .low) (omega arith) (omega arith)) (omega arith)) returns-2)

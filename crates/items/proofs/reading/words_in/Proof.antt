@@ -17,45 +17,6 @@ Inv-loop text words₀ n₀ i₀ words n i =
 abbrev μ-loop : tie.MeasureT-loop
 μ-loop text words₀ n₀ i₀ words n i = length text - i
 
-loop-holds : tie.Need-loop-holds Inv-loop μ-loop
-loop-holds c = (search needs, search needs, refl, refl)
-
-sub-loop : tie.Need-sub-loop Inv-loop μ-loop
-sub-loop c = search needs
-
-shared-slice-read-word-item : tie.Need-shared-slice-read-word-item Inv-loop μ-loop
-shared-slice-read-word-item c = search needs
-
-add-word-item : tie.Need-add-word-item Inv-loop μ-loop
-add-word-item c = search needs
-
-shared-slice-read-word-item-2 : tie.Need-shared-slice-read-word-item-2 Inv-loop μ-loop
-shared-slice-read-word-item-2 c = search needs
-
-add-word-item-2 : tie.Need-add-word-item-2 Inv-loop μ-loop
-add-word-item-2 c = search needs
-
-shared-slice-read-word-item-3 : tie.Need-shared-slice-read-word-item-3 Inv-loop μ-loop
-shared-slice-read-word-item-3 c = search needs
-
-add-word-item-3 : tie.Need-add-word-item-3 Inv-loop μ-loop
-add-word-item-3 c = search needs
-
-shared-slice-read-word-item-4 : tie.Need-shared-slice-read-word-item-4 Inv-loop μ-loop
-shared-slice-read-word-item-4 c = search needs
-
-add-word-item-4 : tie.Need-add-word-item-4 Inv-loop μ-loop
-add-word-item-4 c = search needs
-
-shared-slice-read-word-item-5 : tie.Need-shared-slice-read-word-item-5 Inv-loop μ-loop
-shared-slice-read-word-item-5 c = search needs
-
-word-item-requires : tie.Need-word-item-requires Inv-loop μ-loop
-word-item-requires c κs = search needs
-
-same-length : tie.Need-same-length Inv-loop μ-loop
-same-length c = c .before .before .before .before .before .before .before .before .loop .inv .2
-
 returns : tie.Need-returns Inv-loop μ-loop
 returns c =
     let l = c .before .before .before .before .before .before .before .before .loop in
@@ -66,30 +27,11 @@ returns c =
     bad-end (now (a .words)) (l .words) (l .n) (wordsIn (drop (l .i) (now (a .text)))) (wordsIn (now (a .text))) (l .inv .3)
     (word-off (now (a .text)) (l .i) h off)
 
-cast-words : tie.Need-cast-words Inv-loop μ-loop
-cast-words c = search needs
-
-mul-words : tie.Need-mul-words Inv-loop μ-loop
-mul-words c = search needs
-
-slice-write-words : tie.Need-slice-write-words Inv-loop μ-loop
-slice-write-words c = omega arith
-
-add-n : tie.Need-add-n Inv-loop μ-loop
-add-n c = search needs
-
-add-i : tie.Need-add-i Inv-loop μ-loop
-add-i c = search needs
-
-loop-less : tie.Need-loop-less Inv-loop μ-loop
-loop-less c = search needs
-
 loop-again : tie.Need-loop-again Inv-loop μ-loop
 loop-again c =
     let l = c .before .before .before .before .before .before .before .before .loop in
     let a = c .before .before .before .before .before .before .before .before .before .before .before .args in
     let t = now (a .text) in
-    let v = c .before .word-item .result in
     let h : l .i + 5 ≤ length t = omega arith in
     let on : wordItem (getD t (l .i) 0) (getD t (l .i + 1) 0) (getD t (l .i + 2) 0) (getD t (l .i + 3) 0) (getD t (l .i + 4) 0) < 65536 = omega (arith, c .before .word-item .ensures, c .if1 .left) in (
       h,
@@ -101,18 +43,12 @@ loop-again c =
           ∙ l .inv .3,
     )
 
-same-length-2 : tie.Need-same-length-2 Inv-loop μ-loop
-same-length-2 c = c .before .before .loop .inv .2
-
 returns-2 : tie.Need-returns-2 Inv-loop μ-loop
 returns-2 c =
     let l = c .before .before .loop in
     let a = c .before .before .before .before .before .args in
     let t = now (a .text) in
     good-end (now (a .words)) (l .words) (l .n) (wordsIn (drop (l .i) t)) (wordsIn t) (l .inv .3) (words-end t (l .i) (omega arith))
-
-same-length-3 : tie.Need-same-length-3 Inv-loop μ-loop
-same-length-3 c = c .before .before .loop .inv .2
 
 returns-3 : tie.Need-returns-3 Inv-loop μ-loop
 returns-3 c =
@@ -123,32 +59,8 @@ returns-3 c =
 
 pub words-in-spec : {M : Type 1} → statement M
 words-in-spec =
-    tie.close
-    (tie.spec
-    Inv-loop
-    μ-loop
-    loop-holds
-    sub-loop
-    shared-slice-read-word-item
-    add-word-item
-    shared-slice-read-word-item-2
-    add-word-item-2
-    shared-slice-read-word-item-3
-    add-word-item-3
-    shared-slice-read-word-item-4
-    add-word-item-4
-    shared-slice-read-word-item-5
-    word-item-requires
-    same-length
-    returns
-    cast-words
-    mul-words
-    slice-write-words
-    add-n
-    add-i
-    loop-less
-    loop-again
-    same-length-2
-    returns-2
-    same-length-3
-    returns-3)
+    tie.close (tie.spec Inv-loop μ-loop (λ c. (search needs, search needs, refl, refl)) (λ c. search needs) (λ c. search needs) (λ c. search needs)
+    (λ c. search needs) (λ c. search needs) (λ c. search needs) (λ c. search needs) (λ c. search needs) (λ c. search needs) (λ c. search needs)
+    (λ c κs. search needs) (λ c. c .before .before .before .before .before .before .before .before .loop .inv .2) returns (λ c. search needs)
+    (λ c. search needs) (λ c. omega arith) (λ c. search needs) (λ c. search needs) (λ c. search needs) loop-again
+    (λ c. c .before .before .loop .inv .2) returns-2 (λ c. c .before .before .loop .inv .2) returns-3)

@@ -18,32 +18,11 @@ returns c =
     let e : getD t 0 0 ≡ 0 = rw z in
     no-bytes (packetIn t) (now (a .bytes)) (packet-no t (λ h. omega arith))
 
-shared-slice-read-if2 : tie.Need-shared-slice-read-if2
-shared-slice-read-if2 c = search needs
-
 returns-2 : tie.Need-returns-2
 returns-2 c =
     let a = c .before .before .before .before .before .args in
     let t = now (a .line) in
     no-bytes (packetIn t) (now (a .bytes)) (packet-no t (c .if2 .taken))
-
-sub-bytes-in : tie.Need-sub-bytes-in
-sub-bytes-in c = search needs
-
-part-bytes-in-start : tie.Need-part-bytes-in-start
-part-bytes-in-start c = search needs
-
-part-bytes-in-end : tie.Need-part-bytes-in-end
-part-bytes-in-end c = search needs
-
-bytes-in-requires : tie.Need-bytes-in-requires
-bytes-in-requires c κs = search needs
-
-packet-of-requires : tie.Need-packet-of-requires
-packet-of-requires c κs = search needs
-
-same-length : tie.Need-same-length
-same-length c = search needs
 
 returns-3 : tie.Need-returns-3
 returns-3 c =
@@ -55,15 +34,5 @@ returns-3 c =
 
 pub packet-line-spec : {M : Type 1} → statement M
 packet-line-spec =
-    tie.close
-    (tie.spec
-    returns
-    shared-slice-read-if2
-    returns-2
-    sub-bytes-in
-    part-bytes-in-start
-    part-bytes-in-end
-    bytes-in-requires
-    packet-of-requires
-    same-length
-    returns-3)
+    tie.close (tie.spec returns (λ c. search needs) returns-2 (λ c. search needs) (λ c. search needs) (λ c. search needs) (λ c κs. search needs)
+    (λ c κs. search needs) (λ c. search needs) returns-3)

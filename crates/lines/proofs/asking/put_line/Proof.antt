@@ -9,39 +9,10 @@ use borrow.Author.Needs.{needs}
 use Rattle.lines.proofs.asking.put_line.Statement.{statement}
 use Rattle.lines.proofs.asking.put_line.Tie as tie
 
-returns : tie.Need-returns
-returns c =
-    let a = c .before .before .before .args in
-    no-bytes (putIn (now (a .line))) (now (a .bytes)) (put-short (now (a .line)) (c .if1 .taken))
-
-shared-slice-read-if2 : tie.Need-shared-slice-read-if2
-shared-slice-read-if2 c = search needs
-
 returns-2 : tie.Need-returns-2
 returns-2 c =
     let a = c .before .before .before .before .before .args in
     no-bytes (putIn (now (a .line))) (now (a .bytes)) (put-far (now (a .line)) (c .if2 .taken))
-
-shared-slice-read-if3 : tie.Need-shared-slice-read-if3
-shared-slice-read-if3 c = search needs
-
-sub-bytes-in : tie.Need-sub-bytes-in
-sub-bytes-in c = search needs
-
-part-bytes-in-start : tie.Need-part-bytes-in-start
-part-bytes-in-start c = search needs
-
-part-bytes-in-end : tie.Need-part-bytes-in-end
-part-bytes-in-end c = search needs
-
-bytes-in-requires : tie.Need-bytes-in-requires
-bytes-in-requires c κs = search needs
-
-put-of-requires : tie.Need-put-of-requires
-put-of-requires c κs = search needs
-
-same-length : tie.Need-same-length
-same-length c = search needs
 
 returns-3 : tie.Need-returns-3
 returns-3 c =
@@ -50,27 +21,6 @@ returns-3 c =
     let read = simp (the-rest t 3) at (c .before .before .before .bytes-in .ensures) in
     put-is Priority t (now (a .bytes)) (c .before .before .before .bytes-in .last .1 .0) (bytesIn (drop 3 t)) (c .before .before .before .bytes-in .result) (c .put-of .result)
     (put-priority t (c .before .before .before .before .before .before .before .before .if2 .left) (c .before .before .before .before .before .before .if3 .taken)) (read .0) (read .1) (c .put-of .ensures)
-
-shared-slice-read-if4 : tie.Need-shared-slice-read-if4
-shared-slice-read-if4 c = search needs
-
-sub-bytes-in-2 : tie.Need-sub-bytes-in-2
-sub-bytes-in-2 c = search needs
-
-part-bytes-in-start-2 : tie.Need-part-bytes-in-start-2
-part-bytes-in-start-2 c = search needs
-
-part-bytes-in-end-2 : tie.Need-part-bytes-in-end-2
-part-bytes-in-end-2 c = search needs
-
-bytes-in-requires-2 : tie.Need-bytes-in-requires-2
-bytes-in-requires-2 c κs = search needs
-
-put-of-requires-2 : tie.Need-put-of-requires-2
-put-of-requires-2 c κs = search needs
-
-same-length-2 : tie.Need-same-length-2
-same-length-2 c = search needs
 
 returns-4 : tie.Need-returns-4
 returns-4 c =
@@ -87,25 +37,8 @@ returns-5 c =
 
 pub put-line-spec : {M : Type 1} → statement M
 put-line-spec =
-    tie.close
-    (tie.spec
-    returns
-    shared-slice-read-if2
-    returns-2
-    shared-slice-read-if3
-    sub-bytes-in
-    part-bytes-in-start
-    part-bytes-in-end
-    bytes-in-requires
-    put-of-requires
-    same-length
-    returns-3
-    shared-slice-read-if4
-    sub-bytes-in-2
-    part-bytes-in-start-2
-    part-bytes-in-end-2
-    bytes-in-requires-2
-    put-of-requires-2
-    same-length-2
-    returns-4
-    returns-5)
+    tie.close (tie.spec
+    (λ c. let a = c .before .before .before .args in no-bytes (putIn (now (a .line))) (now (a .bytes)) (put-short (now (a .line)) (c .if1 .taken)))
+    (λ c. search needs) returns-2 (λ c. search needs) (λ c. search needs) (λ c. search needs) (λ c. search needs) (λ c κs. search needs)
+    (λ c κs. search needs) (λ c. search needs) returns-3 (λ c. search needs) (λ c. search needs) (λ c. search needs) (λ c. search needs)
+    (λ c κs. search needs) (λ c κs. search needs) (λ c. search needs) returns-4 returns-5)

@@ -16,45 +16,12 @@ returns c =
     let a = c .before .before .before .args in
     no-words (samplesIn (now (a .line))) (now (a .words)) (samples-short (now (a .line)) (c .if1 .taken))
 
-sub-one-byte : tie.Need-sub-one-byte
-sub-one-byte c = search needs
-
-part-one-byte-start : tie.Need-part-one-byte-start
-part-one-byte-start c = search needs
-
-part-one-byte-end : tie.Need-part-one-byte-end
-part-one-byte-end c = search needs
-
-one-byte-requires : tie.Need-one-byte-requires
-one-byte-requires c κs = search needs
-
 returns-2 : tie.Need-returns-2
 returns-2 c =
     let a = c .before .before .before .before .before .before .args in
     let t = now (a .line) in
     let over : 255 < oneByte (take 3 (drop 1 t)) = omega (arith, c .before .one-byte .ensures, c .if2 .taken) in
     no-words (samplesIn t) (now (a .words)) (samples-no t over)
-
-cast-samples-of : tie.Need-cast-samples-of
-cast-samples-of c = search needs
-
-sub-words-in : tie.Need-sub-words-in
-sub-words-in c = search needs
-
-part-words-in-start : tie.Need-part-words-in-start
-part-words-in-start c = search needs
-
-part-words-in-end : tie.Need-part-words-in-end
-part-words-in-end c = search needs
-
-words-in-requires : tie.Need-words-in-requires
-words-in-requires c κs = search needs
-
-samples-of-requires : tie.Need-samples-of-requires
-samples-of-requires c κs = search needs
-
-same-length : tie.Need-same-length
-same-length c = search needs
 
 returns-3 : tie.Need-returns-3
 returns-3 c =
@@ -70,19 +37,5 @@ returns-3 c =
 
 pub samples-line-spec : {M : Type 1} → statement M
 samples-line-spec =
-    tie.close
-    (tie.spec
-    returns
-    sub-one-byte
-    part-one-byte-start
-    part-one-byte-end
-    one-byte-requires
-    returns-2
-    cast-samples-of
-    sub-words-in
-    part-words-in-start
-    part-words-in-end
-    words-in-requires
-    samples-of-requires
-    same-length
-    returns-3)
+    tie.close (tie.spec returns (λ c. search needs) (λ c. search needs) (λ c. search needs) (λ c κs. search needs) returns-2 (λ c. search needs)
+    (λ c. search needs) (λ c. search needs) (λ c. search needs) (λ c κs. search needs) (λ c κs. search needs) (λ c. search needs) returns-3)

@@ -9,32 +9,12 @@ use borrow.Author.Needs.{needs}
 use Rattle.lines.proofs.asking.short.Statement.{statement}
 use Rattle.lines.proofs.asking.short.Tie as tie
 
-one-word-requires : tie.Need-one-word-requires
-one-word-requires c κs = search needs
-
-word-of-requires : tie.Need-word-of-requires
-word-of-requires c κs = search needs
-
 returns : tie.Need-returns
 unfolding shortAsked
 returns c =
     let a = c .before .before .before .before .args in
     rw (c .before .before .if1 .taken)
     (c .word-of .ensures ∙ ap (λ (w : ℕ). sayLine (wordAsked (a .letter) w)) (c .before .one-word .ensures))
-
-one-byte-requires : tie.Need-one-byte-requires
-one-byte-requires c κs = search needs
-
-byte-of-requires : tie.Need-byte-of-requires
-byte-of-requires c κs = search needs
-
-returns-2 : tie.Need-returns-2
-unfolding shortAsked
-returns-2 c =
-    rw (c .before .before .if2 .taken) (c .byte-of .ensures ∙ ap (λ (b : ℕ). sayLine (byteAsked b)) (c .before .one-byte .ensures))
-
-bare-requires : tie.Need-bare-requires
-bare-requires c κs = search needs
 
 returns-3 : tie.Need-returns-3
 unfolding shortAsked
@@ -49,15 +29,8 @@ returns-4 c =
     rw (c .before .before .if1 .left, ne-eqb (a .letter) 73 (c .before .if2 .left), ne-eqb (length (now (a .text))) 0 (c .if3 .left))
 
 pub short-spec : {M : Type 1} → statement M
+unfolding shortAsked
 short-spec =
-    tie.close
-    (tie.spec
-    one-word-requires
-    word-of-requires
-    returns
-    one-byte-requires
-    byte-of-requires
-    returns-2
-    bare-requires
-    returns-3
-    returns-4)
+    tie.close (tie.spec (λ c κs. search needs) (λ c κs. search needs) returns (λ c κs. search needs) (λ c κs. search needs)
+    (λ c. rw (c .before .before .if2 .taken) (c .byte-of .ensures ∙ ap (λ (b : ℕ). sayLine (byteAsked b)) (c .before .one-byte .ensures)))
+    (λ c κs. search needs) returns-3 returns-4)

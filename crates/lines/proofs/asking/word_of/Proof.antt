@@ -6,23 +6,9 @@ use borrow.Author.Needs.{needs}
 use Rattle.lines.proofs.asking.word_of.Statement.{statement}
 use Rattle.lines.proofs.asking.word_of.Tie as tie
 
-returns : tie.Need-returns
-unfolding wordAsked sayLine
-returns c = rw (le-ltb (c .before .args .word) 65536 (omega arith))
-
-cast-t5 : tie.Need-cast-t5
-cast-t5 c = search needs
-
-cast-t6 : tie.Need-cast-t6
-cast-t6 c = search needs
-
-returns-2 : tie.Need-returns-2
-unfolding wordAsked sayLine
-returns-2 c = rw (lt-ltb (c .before .before .args .word) 65536 (omega arith), c .if2 .taken)
-
-returns-3 : tie.Need-returns-3
-unfolding wordAsked sayLine
-returns-3 c = rw (lt-ltb (c .before .before .args .word) 65536 (omega arith), ne-eqb (c .before .before .args .letter) 67 (c .if2 .left))
-
 pub word-of-spec : {M : Type 1} → statement M
-word-of-spec = tie.close (tie.spec returns cast-t5 cast-t6 returns-2 returns-3)
+unfolding wordAsked sayLine
+word-of-spec =
+    tie.close (tie.spec (λ c. rw (le-ltb (c .before .args .word) 65536 (omega arith))) (λ c. search needs) (λ c. search needs)
+    (λ c. rw (lt-ltb (c .before .before .args .word) 65536 (omega arith), c .if2 .taken))
+    (λ c. rw (lt-ltb (c .before .before .args .word) 65536 (omega arith), ne-eqb (c .before .before .args .letter) 67 (c .if2 .left))))

@@ -7,31 +7,6 @@ use borrow.Author.Needs.{needs}
 use Rattle.lines.proofs.cutting.hold.Statement.{statement}
 use Rattle.lines.proofs.cutting.hold.Tie as tie
 
-add-result : tie.Need-add-result
-add-result c = search needs
-
-returns : tie.Need-returns
-returns c =
-    let a = c .before .before .before .args in
-    too-long (now (a .line)) (a .held) (now (a .part)) (omega (arith, c .if1 .taken))
-
-add-if2 : tie.Need-add-if2
-add-if2 c = search needs
-
-add-result-2 : tie.Need-add-result-2
-add-result-2 c = search needs
-
-returns-2 : tie.Need-returns-2
-returns-2 c =
-    let a = c .before .before .before .before .args in
-    too-long (now (a .line)) (a .held) (now (a .part)) (c .if2 .taken)
-
-append-requires : tie.Need-append-requires
-append-requires c κs = search needs
-
-same-length : tie.Need-same-length
-same-length c = search needs
-
 returns-3 : tie.Need-returns-3
 returns-3 c =
     let a = c .before .before .before .before .before .before .before .before .args in
@@ -41,13 +16,8 @@ returns-3 c =
 
 pub hold-spec : {M : Type 1} → statement M
 hold-spec =
-    tie.close
-    (tie.spec
-    add-result
-    returns
-    add-if2
-    add-result-2
-    returns-2
-    append-requires
-    same-length
-    returns-3)
+    tie.close (tie.spec (λ c. search needs)
+    (λ c. let a = c .before .before .before .args in too-long (now (a .line)) (a .held) (now (a .part)) (omega (arith, c .if1 .taken)))
+    (λ c. search needs) (λ c. search needs)
+    (λ c. let a = c .before .before .before .before .args in too-long (now (a .line)) (a .held) (now (a .part)) (c .if2 .taken))
+    (λ c κs. search needs) (λ c. search needs) returns-3)

@@ -4,13 +4,8 @@ use Rattle.lines.specs.Cut.{lastOf}
 use Rattle.lines.proofs.cutting.last.Statement.{statement}
 use Rattle.lines.proofs.cutting.last.Tie as tie
 
-returns : tie.Need-returns
-unfolding lastOf
-returns c = (rw (lt-ltb 196606 (c .before .args .held) (c .if1 .taken)), λ n. tt)
-
-returns-2 : tie.Need-returns-2
-unfolding lastOf
-returns-2 c = (rw (le-ltb 196606 (c .before .args .held) (c .if1 .left)), λ n. c .if1 .left)
-
 pub last-spec : {M : Type 1} → statement M
-last-spec = tie.close (tie.spec returns returns-2)
+unfolding lastOf
+last-spec =
+    tie.close (tie.spec (λ c. (rw (lt-ltb 196606 (c .before .args .held) (c .if1 .taken)), λ n. tt))
+    (λ c. (rw (le-ltb 196606 (c .before .args .held) (c .if1 .left)), λ n. c .if1 .left)))

@@ -11,12 +11,6 @@ use borrow.Author.Needs.{needs}
 use Rattle.lines.proofs.cutting.next_line.Statement.{statement}
 use Rattle.lines.proofs.cutting.next_line.Tie as tie
 
-line-end-requires : tie.Need-line-end-requires
-line-end-requires c κs = search needs
-
-add-t13 : tie.Need-add-t13
-add-t13 c = search needs
-
 returns : tie.Need-returns
 returns c =
     let a = c .before .before .before .before .args in
@@ -26,21 +20,6 @@ returns c =
     let is = here-is p (a .cursor) (now (a .line)) end (e .0) (c .if1 .taken) in
     let inside = ltb-true end (length p) (and-left (ltb end (length p)) (eqb (a .cursor .held) 0) (c .if1 .taken)) in
     (is .0, (is .1, ((omega (arith, e .0), e .1), (omega (arith, inside), omega arith))))
-
-sub-hold : tie.Need-sub-hold
-sub-hold c = search needs
-
-part-hold-start : tie.Need-part-hold-start
-part-hold-start c = search needs
-
-part-hold-end : tie.Need-part-hold-end
-part-hold-end c = search needs
-
-hold-requires : tie.Need-hold-requires
-hold-requires c κs = search needs
-
-same-length : tie.Need-same-length
-same-length c = search needs
 
 returns-2 : tie.Need-returns-2
 returns-2 c =
@@ -52,15 +31,6 @@ returns-2 c =
     let part = take (end - a .cursor .from) (drop (a .cursor .from) p) in
     let is = more-is p (a .cursor) (now (a .line)) end (e .0) (held .result) (held .last .0) (c .before .before .before .before .before .before .if1 .left) (c .if2 .taken) (held .ensures .0) (held .ensures .1) in
     (is .0, (is .1, (tt, (e .1, omega (arith, held .ensures .0, held-most (a .cursor .held) (length part))))))
-
-last-requires : tie.Need-last-requires
-last-requires c κs = search needs
-
-add-t8 : tie.Need-add-t8
-add-t8 c = search needs
-
-same-length-2 : tie.Need-same-length-2
-same-length-2 c = search needs
 
 returns-3 : tie.Need-returns-3
 returns-3 c =
@@ -74,18 +44,5 @@ returns-3 c =
 
 pub next-line-spec : {M : Type 1} → statement M
 next-line-spec =
-    tie.close
-    (tie.spec
-    line-end-requires
-    add-t13
-    returns
-    sub-hold
-    part-hold-start
-    part-hold-end
-    hold-requires
-    same-length
-    returns-2
-    last-requires
-    add-t8
-    same-length-2
-    returns-3)
+    tie.close (tie.spec (λ c κs. search needs) (λ c. search needs) returns (λ c. search needs) (λ c. search needs) (λ c. search needs)
+    (λ c κs. search needs) (λ c. search needs) returns-2 (λ c κs. search needs) (λ c. search needs) (λ c. search needs) returns-3)

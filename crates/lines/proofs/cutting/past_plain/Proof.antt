@@ -19,36 +19,6 @@ Inv-loop text from i₀ i = (i ≤ length text) × (i + before (drop i text) ≡
 abbrev μ-loop : tie.MeasureT-loop
 μ-loop text from i₀ i = length text - i
 
-loop-holds : tie.Need-loop-holds Inv-loop μ-loop
-loop-holds c = (c .before .pre, refl)
-
-sub-loop : tie.Need-sub-loop Inv-loop μ-loop
-sub-loop c = omega arith
-
-add-plain : tie.Need-add-plain Inv-loop μ-loop
-add-plain c = omega arith
-
-sub-plain : tie.Need-sub-plain Inv-loop μ-loop
-sub-plain c = omega arith
-
-part-plain-start : tie.Need-part-plain-start Inv-loop μ-loop
-part-plain-start c = omega arith
-
-part-plain-end : tie.Need-part-plain-end Inv-loop μ-loop
-part-plain-end c = omega arith
-
-plain-requires : tie.Need-plain-requires Inv-loop μ-loop
-plain-requires c κs = search needs
-
-returns : tie.Need-returns Inv-loop μ-loop
-returns c = let l = c .before .before .before .before .loop in (l .inv .1, l .inv .0)
-
-add-i : tie.Need-add-i Inv-loop μ-loop
-add-i c = omega arith
-
-loop-less : tie.Need-loop-less Inv-loop μ-loop
-loop-less c = omega arith
-
 loop-again : tie.Need-loop-again Inv-loop μ-loop
 loop-again c =
     let l = c .before .before .before .before .loop in
@@ -57,24 +27,8 @@ loop-again c =
     let clear : before (take 16 (drop (l .i) t)) ≡ 16 = rw n at (c .before .plain .ensures (not-false _ (c .if1 .left))) in
     (omega arith, omega (arith, rw (drop-drop 16 (l .i) t) at (over 16 (drop (l .i) t) clear), l .inv .1))
 
-returns-2 : tie.Need-returns-2 Inv-loop μ-loop
-returns-2 c = let l = c .before .loop in (l .inv .1, l .inv .0)
-
 pub past-plain-spec : {M : Type 1} → statement M
 past-plain-spec =
-    tie.close
-    (tie.spec
-    Inv-loop
-    μ-loop
-    loop-holds
-    sub-loop
-    add-plain
-    sub-plain
-    part-plain-start
-    part-plain-end
-    plain-requires
-    returns
-    add-i
-    loop-less
-    loop-again
-    returns-2)
+    tie.close (tie.spec Inv-loop μ-loop (λ c. (c .before .pre, refl)) (λ c. omega arith) (λ c. omega arith) (λ c. omega arith) (λ c. omega arith)
+    (λ c. omega arith) (λ c κs. search needs) (λ c. let l = c .before .before .before .before .loop in (l .inv .1, l .inv .0)) (λ c. omega arith)
+    (λ c. omega arith) loop-again (λ c. let l = c .before .loop in (l .inv .1, l .inv .0)))

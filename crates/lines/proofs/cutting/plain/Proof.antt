@@ -20,18 +20,6 @@ Inv-loop part all₀ k₀ all k = (k ≤ 16) × (all ≡ true → before part �
 abbrev μ-loop : tie.MeasureT-loop
 μ-loop part all₀ k₀ all k = 16 - k
 
-loop-holds : tie.Need-loop-holds Inv-loop μ-loop
-loop-holds c = (omega arith, λ e. omega arith)
-
-shared-slice-read-all : tie.Need-shared-slice-read-all Inv-loop μ-loop
-shared-slice-read-all c = omega arith
-
-add-k : tie.Need-add-k Inv-loop μ-loop
-add-k c = omega arith
-
-loop-less : tie.Need-loop-less Inv-loop μ-loop
-loop-less c = omega arith
-
 loop-again : tie.Need-loop-again Inv-loop μ-loop
 loop-again c =
     let l = c .before .before .loop in
@@ -43,13 +31,7 @@ loop-again c =
           omega (arith, past t (l .k) (omega arith) (λ n. omega arith), l .inv .1 (and-left (l .all) (leb 32 at) e)),
     )
 
-returns : tie.Need-returns Inv-loop μ-loop
-returns c =
-    λ e.
-    let l = c .before .loop in
-    omega (arith, l .inv .1 e, none-left (now (c .before .before .args .part)) (l .k) (omega arith))
-
 pub plain-spec : {M : Type 1} → statement M
 plain-spec =
-    tie.close
-    (tie.spec Inv-loop μ-loop loop-holds shared-slice-read-all add-k loop-less loop-again returns)
+    tie.close (tie.spec Inv-loop μ-loop (λ c. (omega arith, λ e. omega arith)) (λ c. omega arith) (λ c. omega arith) (λ c. omega arith) loop-again
+    (λ c. λ e. let l = c .before .loop in omega (arith, l .inv .1 e, none-left (now (c .before .before .args .part)) (l .k) (omega arith))))

@@ -15,36 +15,20 @@ Inv-loop word rest₀ count₀ i₀ rest count i = (i ≤ 16) × (count ≤ i) �
 abbrev μ-loop : tie.MeasureT-loop
 μ-loop word rest₀ count₀ i₀ rest count i = 16 - i
 
-loop-holds : tie.Need-loop-holds Inv-loop μ-loop
-loop-holds c = search needs
-
-add-count : tie.Need-add-count Inv-loop μ-loop
-add-count c = search needs
-
-add-i : tie.Need-add-i Inv-loop μ-loop
-add-i c = search needs
-
-loop-less : tie.Need-loop-less Inv-loop μ-loop
-loop-less c = search needs
-
-loop-again : tie.Need-loop-again Inv-loop μ-loop
-unfolding onesIn
-loop-again c =
+pub odd-ones-spec : {M : Type 1} → statement M
+unfolding onesIn oddOnes
+odd-ones-spec =
+    tie.close
+    (tie.spec Inv-loop μ-loop (λ c. search needs) (λ c. search needs) (λ c. search needs) (λ c. search needs)
+    (λ c.
     let i = c .before .loop .i in
     let r = c .before .loop .rest in
     let more : 16 - i ≡ suc (16 - (i + 1)) = omega arith in
     let opened : onesIn (16 - i) r ≡ r % 2 + onesIn (16 - (i + 1)) (r / 2) = ap (λ (d : ℕ). onesIn d r) more in
-    (omega arith, omega arith, omega (arith, opened, c .before .loop .inv .2))
-
-returns : tie.Need-returns Inv-loop μ-loop
-unfolding oddOnes onesIn
-returns c =
+    (omega arith, omega arith, omega (arith, opened, c .before .loop .inv .2)))
+    (λ c.
     let w = c .before .before .args .word in
     let end : 16 - c .before .loop .i ≡ 0 = omega arith in
     let none : onesIn (16 - c .before .loop .i) (c .before .loop .rest) ≡ 0 = ap (λ (d : ℕ). onesIn d (c .before .loop .rest)) end in
     let all : c .before .loop .count ≡ ones w = omega (arith, none, c .before .loop .inv .2, ones-in 16 w (c .before .before .fits .word .fits)) in
-    rw all
-
-pub odd-ones-spec : {M : Type 1} → statement M
-odd-ones-spec =
-    tie.close (tie.spec Inv-loop μ-loop loop-holds add-count add-i loop-less loop-again returns)
+    rw all))

@@ -6,45 +6,26 @@ use Rattle.orders.proofs.Lengths.{allowed-has}
 use Rattle.orders.proofs.asked.order.Statement.{statement}
 use Rattle.orders.proofs.asked.order.Tie as tie
 
-returns : tie.Need-returns
-returns c = sym (even-other _ (c .if1 .taken))
-
-writes-requires : tie.Need-writes-requires
-writes-requires c κs = search needs
-
-returns-2 : tie.Need-returns-2
-returns-2 c =
+pub order-spec : {M : Type 1} → statement M
+order-spec =
+    tie.close
+    (tie.spec (λ c. sym (even-other _ (c .if1 .taken))) (λ c κs. search needs)
+    (λ c.
     let e1 = c .before .before in
-    sym (is-stop _ (e1 .if1 .left) (sym (c .before .writes .ensures) ∙ c .if2 .taken))
-
-writes-requires-2 : tie.Need-writes-requires-2
-writes-requires-2 c κs = search needs
-
-returns-3 : tie.Need-returns-3
-returns-3 c =
+    sym (is-stop _ (e1 .if1 .left) (sym (c .before .writes .ensures) ∙ c .if2 .taken))) (λ c κs. search needs)
+    (λ c.
     let e2 = c .before .before in
     let e1 = e2 .before .before in
-    sym (is-restart _ (e1 .if1 .left) (sym (e2 .before .writes .ensures) ∙ e2 .if2 .left) (sym (c .before .writes2 .ensures) ∙ c .if3 .taken))
-
-writes-requires-3 : tie.Need-writes-requires-3
-writes-requires-3 c κs = search needs
-
-returns-4 : tie.Need-returns-4
-returns-4 c =
+    sym (is-restart _ (e1 .if1 .left) (sym (e2 .before .writes .ensures) ∙ e2 .if2 .left) (sym (c .before .writes2 .ensures) ∙ c .if3 .taken)))
+    (λ c κs. search needs)
+    (λ c.
     let e3 = c .before .before in
     let e2 = e3 .before .before in
     let e1 = e2 .before .before in
     sym (is-next _ (e1 .if1 .left) (sym (e2 .before .writes .ensures) ∙ e2 .if2 .left) (sym (e3 .before .writes2 .ensures) ∙ e3 .if3 .left)
-    (sym (c .before .writes3 .ensures) ∙ c .if4 .taken))
-
-allowed-requires : tie.Need-allowed-requires
-allowed-requires c κs = search needs
-
-table-order-requires : tie.Need-table-order-requires
-table-order-requires c κs = allowed-has _ (sym (c .before .allowed .ensures) ∙ c .if5 .taken) .most
-
-returns-5 : tie.Need-returns-5
-returns-5 c =
+    (sym (c .before .writes3 .ensures) ∙ c .if4 .taken))) (λ c κs. search needs)
+    (λ c κs. allowed-has _ (sym (c .before .allowed .ensures) ∙ c .if5 .taken) .most)
+    (λ c.
     let t5 = c .before in
     let e4 = t5 .before .before in
     let e3 = e4 .before .before in
@@ -52,29 +33,11 @@ returns-5 c =
     let e1 = e2 .before .before in
     c .table-order .ensures
     ∙ sym (is-table _ (e1 .if1 .left) (sym (e2 .before .writes .ensures) ∙ e2 .if2 .left) (sym (e3 .before .writes2 .ensures) ∙ e3 .if3 .left)
-    (sym (e4 .before .writes3 .ensures) ∙ e4 .if4 .left) (sym (t5 .before .allowed .ensures) ∙ t5 .if5 .taken))
-
-returns-6 : tie.Need-returns-6
-returns-6 c =
+    (sym (e4 .before .writes3 .ensures) ∙ e4 .if4 .left) (sym (t5 .before .allowed .ensures) ∙ t5 .if5 .taken)))
+    (λ c.
     let e4 = c .before .before in
     let e3 = e4 .before .before in
     let e2 = e3 .before .before in
     let e1 = e2 .before .before in
     sym (is-other _ (e1 .if1 .left) (sym (e2 .before .writes .ensures) ∙ e2 .if2 .left) (sym (e3 .before .writes2 .ensures) ∙ e3 .if3 .left)
-    (sym (e4 .before .writes3 .ensures) ∙ e4 .if4 .left) (sym (c .before .allowed .ensures) ∙ c .if5 .left))
-
-pub order-spec : {M : Type 1} → statement M
-order-spec =
-    tie.close
-    (tie.spec
-    returns
-    writes-requires
-    returns-2
-    writes-requires-2
-    returns-3
-    writes-requires-3
-    returns-4
-    allowed-requires
-    table-order-requires
-    returns-5
-    returns-6)
+    (sym (e4 .before .writes3 .ensures) ∙ e4 .if4 .left) (sym (c .before .allowed .ensures) ∙ c .if5 .left))))

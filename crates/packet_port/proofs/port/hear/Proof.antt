@@ -7,11 +7,6 @@ use borrow.Author.Needs.{needs}
 use Rattle.packet_port.proofs.port.hear.Statement.{statement}
 use Rattle.packet_port.proofs.port.hear.Tie as tie
 
-shared-slice-read-asked : tie.Need-shared-slice-read-asked
-shared-slice-read-asked c =
-    let p = c .before .before in
-    asked-some _ _ (sym (read-decided _ _ (p .before .before .read .ensures)) ∙ p .parsed3 .given .1)
-
 returns-2 : tie.Need-returns-2
 unfolding packetHeard answered spokenBytes replyBytes
 returns-2 c l =
@@ -36,21 +31,10 @@ returns-4 c l =
 pub hear-spec : {M : Type 1} → statement M
 unfolding packetHeard answered spokenBytes
 hear-spec =
-    tie.close
-    (tie.spec
-    (λ c κs. search needs)
-    (λ c. search needs)
-    (λ c. search needs)
-    (λ c κs. c .before .before .before .before .before .before .before .before .before .pre .room)
-    (λ c κs. search needs)
-    (λ c. search needs)
-    (λ c κs. c .before .before .before .before .before .before .before .before .pre .sound)
-    (λ c. search needs)
-    shared-slice-read-asked
+    tie.close (tie.spec (λ c κs. search needs) (λ c. search needs) (λ c. search needs)
+    (λ c κs. c .before .before .before .before .before .before .before .before .before .pre .room) (λ c κs. search needs) (λ c. search needs)
+    (λ c κs. c .before .before .before .before .before .before .before .before .pre .sound) (λ c. search needs)
+    (λ c. let p = c .before .before in asked-some _ _ (sym (read-decided _ _ (p .before .before .read .ensures)) ∙ p .parsed3 .given .1))
     (λ c κs. c .before .before .before .before .before .before .before .before .before .before .pre)
-    (λ c l. rw (sym (read-decided _ _ (c .before .before .read .ensures)) ∙ c .enum-told .given .1))
-    (λ c. search needs)
-    returns-2
-    returns-3
-    (λ c. search needs)
-    returns-4)
+    (λ c l. rw (sym (read-decided _ _ (c .before .before .read .ensures)) ∙ c .enum-told .given .1)) (λ c. search needs) returns-2 returns-3
+    (λ c. search needs) returns-4)

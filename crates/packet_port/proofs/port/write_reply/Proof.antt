@@ -3,8 +3,7 @@ use mathlib.Core.Path.{_≡_, ap, _∙_}
 use lib.ListN.{length}
 use mir.Syntax.{w32}
 use mir.Val.{toZ, ofZ}
-use Rattle.packets.specs.Answers.{errorAnswer, doneAnswer, statusAnswer, valueAnswer, dataAnswer}
-use Rattle.rules.specs.declared.Reply.{Reply}
+use Rattle.packets.specs.Answers.{doneAnswer, statusAnswer, valueAnswer, dataAnswer}
 use Rattle.rules.specs.Obey.{replySaid}
 use Rattle.rules.specs.Calls.{meantBody, replyBytes}
 use Rattle.rules.proofs.Inside.{pod-in, ring-in}
@@ -58,28 +57,12 @@ returns-5 c l =
 pub write-reply-spec : {M : Type 1} → statement M
 unfolding replyBytes replySaid meantBody doneAnswer
 write-reply-spec =
-    tie.close
-    (tie.spec
-    (λ c. search needs)
-    (λ c κs. c .before .before .before .before .before .before .pre .0 .room)
-    (λ c. search needs)
-    (λ c κs. c .before .before .before .before .before .before .before .pre .0 .room)
-    (λ c. search needs)
+    tie.close (tie.spec (λ c. search needs) (λ c κs. c .before .before .before .before .before .before .pre .0 .room) (λ c. search needs)
+    (λ c κs. c .before .before .before .before .before .before .before .pre .0 .room) (λ c. search needs)
     (λ c κs. c .before .before .before .before .before .before .pre .0 .sound)
-    (λ c κs. c .before .before .before .before .before .before .before .pre .0 .room)
-    (λ c. search needs)
-    (λ c κs. c .before .before .before .before .before .before .before .pre .0 .room)
-    (λ c. search needs)
-    (λ c κs. search needs)
-    oldest-requires
-    write-data-requires
-    (λ c. search needs)
-    (λ c l. rw (c .before .before .before .before .enum-told .given .1) (c .before .before .write-done .ensures))
-    (λ c. search needs)
-    (λ c l. rw (c .before .before .before .before .before .reply .given .1) (c .before .before .write-error .ensures))
-    (λ c. search needs)
-    returns-3
-    (λ c. search needs)
-    returns-4
-    (λ c. search needs)
-    returns-5)
+    (λ c κs. c .before .before .before .before .before .before .before .pre .0 .room) (λ c. search needs)
+    (λ c κs. c .before .before .before .before .before .before .before .pre .0 .room) (λ c. search needs) (λ c κs. search needs) oldest-requires
+    write-data-requires (λ c. search needs)
+    (λ c l. rw (c .before .before .before .before .enum-told .given .1) (c .before .before .write-done .ensures)) (λ c. search needs)
+    (λ c l. rw (c .before .before .before .before .before .reply .given .1) (c .before .before .write-error .ensures)) (λ c. search needs) returns-3
+    (λ c. search needs) returns-4 (λ c. search needs) returns-5)

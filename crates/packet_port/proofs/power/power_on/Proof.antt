@@ -12,11 +12,6 @@ use borrow.Author.Needs.{needs}
 use Rattle.packet_port.proofs.power.power_on.Statement.{statement}
 use Rattle.packet_port.proofs.power.power_on.Tie as tie
 
-to-starts-requires : tie.Need-to-starts-requires
-to-starts-requires c κs =
-    let e1 = c .before .before .before in
-    tables-fit _ (past (as-row (e1 .before .sized .ensures) (e1 .if1 .left)) none)
-
 returns-2 : tie.Need-returns-2
 unfolding powerCall answerSaid
 returns-2 c =
@@ -29,16 +24,7 @@ returns-2 c =
 pub power-on-spec : {M : Type 1} → statement M
 unfolding powerCall answerSaid refusalNumber
 power-on-spec =
-    tie.close
-    (tie.spec
-    (λ c κs. search needs)
-    (λ c. search needs)
-    (λ c. search needs)
-    (λ c. search needs)
+    tie.close (tie.spec (λ c κs. search needs) (λ c. search needs) (λ c. search needs) (λ c. search needs)
     (λ c. refused-is _ _ _ (here (as-row (c .before .sized .ensures) (c .if1 .taken))))
-    to-starts-requires
-    (λ c κs. search needs)
-    (λ c. search needs)
-    (λ c. search needs)
-    (λ c. search needs)
-    returns-2)
+    (λ c κs. let e1 = c .before .before .before in tables-fit _ (past (as-row (e1 .before .sized .ensures) (e1 .if1 .left)) none))
+    (λ c κs. search needs) (λ c. search needs) (λ c. search needs) (λ c. search needs) returns-2)

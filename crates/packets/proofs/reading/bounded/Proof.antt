@@ -1,5 +1,4 @@
 -- `packets::reading::bounded` meets its contract: the same tests.
--- Assumes nothing.
 use mathlib.Core.Path.{refl}
 use Rattle.packets.specs.Commands.{fieldsBounded}
 use Rattle.packets.proofs.reading.bounded.Statement.{statement}

@@ -1,5 +1,4 @@
 -- `packets::reading::command_in` meets its contract: the command of the code's row.
--- Assumes nothing.
 use Prim.Native.Nat.{ℕ}
 use native.Mathlib.Omega.{arith}
 use mathlib.Core.Path.{_≡_, ap, _∙_}
@@ -16,28 +15,20 @@ use Rattle.packets.proofs.reading.command_in.Tie as tie
 held : (c : tie.Start) (k : ℕ) → c .args .code ≡ k → length (c .args .packet .now) ≡ codeRow k .bytes
 held c k e = c .pre .1 ∙ ap (λ (j : ℕ). codeRow j .bytes) e
 
-written : tie.Need-returns-4
-unfolding codeRow findIn
-written c =
-    let back : toZ w32 (ofZ w32 (c .signed .result)) ≡ c .signed .result = search needs in
-    rw (c .before .before .before .match .keys4) (cc)
-
-shut : tie.Need-returns-8
-unfolding codeRow findIn
-shut c =
-    let rest = c .match .rest in
-    let a = c .before .before in
-    rw (last-code (a .args .code) (a .pre .0) (rest .0 .0 .0 .0 .0 .0 .1) (rest .0 .0 .0 .0 .0 .1) (rest .0 .0 .0 .0 .1) (rest .0 .0 .0 .1) (rest .0 .0 .1) (rest .0 .1) (rest .1))
-
 pub command-in-spec : {M : Type 1} → statement M
 unfolding codeRow findIn
 command-in-spec =
-    tie.close (tie.spec
-    (λ c κs. omega (arith, held (c .before .before) 0x90 (c .match .keys1)))
+    tie.close
+    (tie.spec (λ c κs. omega (arith, held (c .before .before) 0x90 (c .match .keys1)))
     (λ c κs. omega (arith, held (c .before .before) 0x92 (c .match .keys3)))
     (λ c. omega (arith, held (c .before .before .before) 0x93 (c .before .match .keys4)))
-    (λ c κs. omega (arith, held (c .before .before .before) 0x93 (c .before .match .keys4)))
-    (λ c κs. search needs)
-    (λ c. omega (arith, held (c .before .before .before) 0x94 (c .before .match .keys5)))
-    (λ c. rw (c .before .match .keys1) (cc)) (λ c. rw (c .match .keys2)) (λ c. rw (c .before .match .keys3) (cc)) written
-    (λ c. rw (c .before .match .keys5)) (λ c. rw (c .match .keys6)) (λ c. rw (c .match .keys7)) shut)
+    (λ c κs. omega (arith, held (c .before .before .before) 0x93 (c .before .match .keys4))) (λ c κs. search needs)
+    (λ c. omega (arith, held (c .before .before .before) 0x94 (c .before .match .keys5))) (λ c. rw (c .before .match .keys1) (cc))
+    (λ c. rw (c .match .keys2)) (λ c. rw (c .before .match .keys3) (cc))
+    (λ c.
+    let back : toZ w32 (ofZ w32 (c .signed .result)) ≡ c .signed .result = search needs in
+    rw (c .before .before .before .match .keys4) (cc)) (λ c. rw (c .before .match .keys5)) (λ c. rw (c .match .keys6)) (λ c. rw (c .match .keys7))
+    (λ c.
+    let rest = c .match .rest in
+    let a = c .before .before in
+    rw (last-code (a .args .code) (a .pre .0) (rest .0 .0 .0 .0 .0 .0 .1) (rest .0 .0 .0 .0 .0 .1) (rest .0 .0 .0 .0 .1) (rest .0 .0 .0 .1) (rest .0 .0 .1) (rest .0 .1) (rest .1))))

@@ -1,5 +1,4 @@
 -- `packets::reading::crc_right` meets its contract: both numbers are those of the definition.
--- Assumes nothing.
 use native.Mathlib.Omega.{arith}
 use lib.ListN.{length-take}
 use Rattle.packets.specs.Reading.{crcRight}

@@ -1,5 +1,4 @@
 -- `packets::reading::fields_in` meets its contract: each field from its place.
--- Assumes nothing.
 use native.Mathlib.Omega.{arith}
 use Rattle.numbers.specs.Layout.{numbersAt}
 use Rattle.numbers.proofs.Digits.{one-number}
@@ -8,15 +7,12 @@ use borrow.Author.Needs.{needs}
 use Rattle.packets.proofs.reading.fields_in.Statement.{statement}
 use Rattle.packets.proofs.reading.fields_in.Tie as tie
 
-returns : tie.Need-returns
-unfolding fieldsIn fieldsOf numbersAt
-returns c =
-    let start = c .before .before .before .before .before .before .before .before .before in
-    cc (one-number (start .args .packet .now) 2 (omega arith))
-
 pub fields-in-spec : {M : Type 1} → statement M
+unfolding fieldsIn fieldsOf numbersAt
 fields-in-spec =
-    tie.close (tie.spec
-    (λ c κs. search needs) (λ c. search needs) (λ c κs. search needs) (λ c. search needs)
-    (λ c κs. search needs) (λ c κs. search needs) (λ c κs. search needs) (λ c κs. search needs)
-    (λ c κs. search needs) returns)
+    tie.close
+    (tie.spec (λ c κs. search needs) (λ c. search needs) (λ c κs. search needs) (λ c. search needs) (λ c κs. search needs) (λ c κs. search needs)
+    (λ c κs. search needs) (λ c κs. search needs) (λ c κs. search needs)
+    (λ c.
+    let start = c .before .before .before .before .before .before .before .before .before in
+    cc (one-number (start .args .packet .now) 2 (omega arith))))

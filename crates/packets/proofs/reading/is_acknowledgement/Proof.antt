@@ -1,5 +1,4 @@
 -- `packets::reading::is_acknowledgement` meets its contract: the same tests.
--- Assumes nothing.
 use borrow.Author.Tests.{eq-eqb, ne-eqb}
 use Rattle.packets.specs.Reading.{acknowledges}
 use borrow.Author.Needs.{needs}

@@ -1,5 +1,4 @@
 -- `packets::reading::read` meets its contract: each way out is one check.
--- Assumes nothing.
 use Prim.Native.Nat.{ℕ, _≤_}
 use native.Mathlib.Omega.{arith}
 use mathlib.Core.Path.{_≡_, sym, ap, _∙_}
@@ -40,44 +39,36 @@ code c =
     let k = first (packet (judged (unformed c))) in
     code-is k ∙ ap not (ne-eqb (codeRow k .bytes) 0 (λ e. c .if5 .left (c .before .length-of .ensures ∙ e)))
 
-returns : tie.Need-returns
-returns c = ap parsedSaid (sym (empty (c .before .before .args .packet .now) (c .if1 .taken)))
-
-returns-2 : tie.Need-returns-2
-returns-2 c = ap parsedSaid (sym (short (c .before .before .before .before .args .packet .now) (omega arith) (c .if2 .taken)))
-
-returns-3 : tie.Need-returns-3
-returns-3 c =
+pub read-spec : {M : Type 1} → statement M
+read-spec =
+    tie.close
+    (tie.spec (λ c. ap parsedSaid (sym (empty (c .before .before .args .packet .now) (c .if1 .taken)))) (λ c. search needs)
+    (λ c. ap parsedSaid (sym (short (c .before .before .before .before .args .packet .now) (omega arith) (c .if2 .taken)))) (λ c. search needs)
+    (λ c κs. search needs)
+    (λ c.
     let p = c .before in
-    ap parsedSaid (sym (damaged (packet p) (omega (arith, four p)) (sym (p .crc-right .ensures) ∙ not-true _ (c .if3 .taken))))
-
-returns-4 : tie.Need-returns-4
-returns-4 c =
+    ap parsedSaid (sym (damaged (packet p) (omega (arith, four p)) (sym (p .crc-right .ensures) ∙ not-true _ (c .if3 .taken)))))
+    (λ c κs. search needs)
+    (λ c.
     let p = c .before .before .before in
-    ap parsedSaid (sym (acknowledged (packet p) (four p) (right (c .before .before)) (sym (c .before .is-acknowledgement .ensures) ∙ c .if4 .taken)))
-
-returns-5 : tie.Need-returns-5
-returns-5 c =
+    ap parsedSaid (sym (acknowledged (packet p) (four p) (right (c .before .before)) (sym (c .before .is-acknowledgement .ensures) ∙ c .if4 .taken))))
+    (λ c κs. search needs)
+    (λ c.
     let q = c .before .before in
     let p = judged q in
-    ap parsedSaid (sym (unknown (packet p) (four p) (right (q .before .before)) (no-form q) (sym (c .before .length-of .ensures) ∙ c .if5 .taken)))
-
-returns-6 : tie.Need-returns-6
-returns-6 c =
+    ap parsedSaid (sym (unknown (packet p) (four p) (right (q .before .before)) (no-form q) (sym (c .before .length-of .ensures) ∙ c .if5 .taken))))
+    (λ c.
     let q = unformed (c .before) in
     let p = judged q in
-    ap parsedSaid (sym (second-wrong (packet p) (four p) (right (q .before .before)) (no-form q) (code (c .before)) (c .if6 .taken)))
-
-returns-7 : tie.Need-returns-7
-returns-7 c =
+    ap parsedSaid (sym (second-wrong (packet p) (four p) (right (q .before .before)) (no-form q) (code (c .before)) (c .if6 .taken))))
+    (λ c.
     let coded = c .before .before in
     let q = unformed coded in
     let p = judged q in
     let other : length (packet p) ≡ codeRow (first (packet p)) .bytes → ⊥ = λ e. c .if7 .taken (e ∙ sym (coded .before .length-of .ensures)) in
-    ap parsedSaid (sym (length-wrong (packet p) (four p) (right (q .before .before)) (no-form q) (code coded) (c .before .if6 .left) other))
-
-returns-8 : tie.Need-returns-8
-returns-8 c =
+    ap parsedSaid (sym (length-wrong (packet p) (four p) (right (q .before .before)) (no-form q) (code coded) (c .before .if6 .left) other)))
+    (λ c κs. (code (c .before .before), c .if7 .left ∙ c .before .before .before .length-of .ensures))
+    (λ c.
     let coded = c .before .before .before in
     let q = unformed coded in
     let p = judged q in
@@ -85,11 +76,4 @@ returns-8 c =
     ap parsedSaid (
     ap Asked (c .command-in .ensures)
     ∙ sym (asked (packet p) (four p) (right (q .before .before)) (no-form q) (code coded) (c .before .before .if6 .left) long)
-    )
-
-pub read-spec : {M : Type 1} → statement M
-read-spec =
-    tie.close (tie.spec
-    returns (λ c. search needs) returns-2 (λ c. search needs) (λ c κs. search needs) returns-3 (λ c κs. search needs)
-    returns-4 (λ c κs. search needs) returns-5 returns-6 returns-7
-    (λ c κs. (code (c .before .before), c .if7 .left ∙ c .before .before .before .length-of .ensures)) returns-8)
+    )))

@@ -1,5 +1,4 @@
 -- `packets::writing::close` meets its contract: the CRC of the part, stored behind it.
--- Assumes nothing.
 use native.Mathlib.Omega.{arith}
 use mathlib.Core.Path.{refl}
 use lib.ListN.{length-take}

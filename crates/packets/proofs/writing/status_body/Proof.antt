@@ -1,5 +1,4 @@
 -- `packets::writing::status_body` meets its contract: each part behind the one before it.
--- Assumes nothing.
 use native.Mathlib.Omega.{arith}
 use mathlib.Core.Path.{_≡_}
 use lib.ListN.{length}
@@ -13,14 +12,11 @@ use Rattle.packets.proofs.writing.status_body.Tie as tie
 eight : (c : tie.Start) → length (c .args .report .ids) ≡ 8
 eight c = search needs
 
-copy-requires : tie.Need-copy-requires
-copy-requires c κs =
-    let start = c .before .before .before .before .before .before .before .before .before .before .before .before .before .before .before .before .before .before .before .before .before .before .before .before in
-    omega (arith, eight start)
-
 pub status-body-spec : {M : Type 1} → statement M
 unfolding statusBody highFirst
 status-body-spec =
-    tie.close (tie.spec
-    (λ c κs. search needs) (λ c κs. search needs) (λ c κs. search needs) (λ c κs. search needs)
-    (λ c κs. search needs) (λ c. search needs) copy-requires (λ c. search needs) (λ c. cc))
+    tie.close
+    (tie.spec (λ c κs. search needs) (λ c κs. search needs) (λ c κs. search needs) (λ c κs. search needs) (λ c κs. search needs) (λ c. search needs)
+    (λ c κs.
+    let start = c .before .before .before .before .before .before .before .before .before .before .before .before .before .before .before .before .before .before .before .before .before .before .before .before in
+    omega (arith, eight start)) (λ c. search needs) (λ c. cc))

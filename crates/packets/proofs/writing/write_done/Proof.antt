@@ -1,5 +1,4 @@
 -- `packets::writing::write_done` meets its contract.
--- Assumes nothing.
 use Rattle.packets.specs.Answers.{doneAnswer}
 use borrow.Author.Needs.{needs}
 use Rattle.packets.proofs.writing.write_done.Statement.{statement}

@@ -1,5 +1,4 @@
 -- `packets::writing::write_error` meets its contract.
--- Assumes nothing.
 use Rattle.packets.specs.Answers.{errorAnswer}
 use borrow.Author.Needs.{needs}
 use Rattle.packets.proofs.writing.write_error.Statement.{statement}

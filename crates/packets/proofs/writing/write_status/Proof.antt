@@ -1,5 +1,4 @@
 -- `packets::writing::write_status` meets its contract: the law of every answer, at its body.
--- Assumes nothing.
 use native.Mathlib.Omega.{arith}
 use mathlib.Core.Path.{_≡_, refl}
 use lib.ListN.{length}
@@ -14,18 +13,16 @@ use Rattle.packets.proofs.writing.write_status.Tie as tie
 eight : (c : tie.Start) → length (c .args .report .ids) ≡ 8
 eight c = search needs
 
-returns : tie.Need-returns
+pub write-status-spec : {M : Type 1} → statement M
 unfolding statusAnswer
-returns c =
+write-status-spec =
+    tie.close
+    (tie.spec (λ c κs. search needs) (λ c. search needs) (λ c. search needs) (λ c. search needs) (λ c κs. search needs) (λ c κs. search needs)
+    (λ c. search needs)
+    (λ c.
     let closing = c .before .before in
     let body = closing .before .before .before .before in
     let heading = body .before .before .before .before in
     let a = heading .before .before .before .args in
     answered (a .room .now) (a .first) 0x01 (statusBody (a .report)) _ _ _ _ 20 _
-    (heading .head .ensures) refl (body .status-body .ensures) (closing .close .ensures) (omega (arith, status-body-length (a .report) (eight (heading .before .before .before)))) (omega arith)
-
-pub write-status-spec : {M : Type 1} → statement M
-write-status-spec =
-    tie.close (tie.spec
-    (λ c κs. search needs) (λ c. search needs) (λ c. search needs) (λ c. search needs)
-    (λ c κs. search needs) (λ c κs. search needs) (λ c. search needs) returns)
+    (heading .head .ensures) refl (body .status-body .ensures) (closing .close .ensures) (omega (arith, status-body-length (a .report) (eight (heading .before .before .before)))) (omega arith)))

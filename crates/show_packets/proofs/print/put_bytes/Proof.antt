@@ -6,14 +6,7 @@ use borrow.Author.Needs.{needs}
 use Rattle.show_packets.proofs.print.put_bytes.Statement.{statement}
 use Rattle.show_packets.proofs.print.put_bytes.Tie as tie
 
-abbrev Inv-loop : tie.InvT-loop
-Inv-loop bytes i₀ i = i ≤ length bytes
-
-abbrev μ-loop : tie.MeasureT-loop
-μ-loop bytes i₀ i = length bytes - i
-
 pub put-bytes-spec : {M : Type 1} → statement M
 put-bytes-spec =
-    tie.close (tie.spec
-    Inv-loop μ-loop (λ c. search needs) (λ c. search needs) (λ c κs. search needs) (λ c. search needs)
-    (λ c. search needs) (λ c. search needs) (λ c. search needs))
+    tie.close (tie.spec (λ bytes i₀ i. i ≤ length bytes) (λ bytes i₀ i. length bytes - i) (λ c. search needs) (λ c. search needs)
+    (λ c κs. search needs) (λ c. search needs) (λ c. search needs) (λ c. search needs) (λ c. search needs))

@@ -4,9 +4,6 @@ use Rattle.tables.specs.Tables.{tablesSized}
 use Rattle.tables.proofs.bounds.sized.Statement.{statement}
 use Rattle.tables.proofs.bounds.sized.Tie as tie
 
-returns : tie.Need-returns
-unfolding tablesSized
-returns c = search needs
-
 pub sized-spec : {M : Type 1} → statement M
-sized-spec = tie.close (tie.spec returns)
+unfolding tablesSized
+sized-spec = tie.close (tie.spec (λ c. search needs))

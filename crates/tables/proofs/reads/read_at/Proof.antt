@@ -21,44 +21,17 @@ within-end c = sym (c .before .within .ensures) ∙ not-false _ (c .if1 .left)
 ends : (c : tie.Else1) → c .before .before .args .at + dataCount (c .before .before .args .h) ≤ tableSize (c .before .before .args .h .table)
 ends c = leb-true _ _ (within-end c)
 
-within-requires : tie.Need-within-requires
-within-requires c κs = search needs
-
-with-error-requires : tie.Need-with-error-requires
-with-error-requires c κs = search needs
-
-returns : tie.Need-returns
-returns c = c .with-error .ensures ∙ sym (read-past _ _ _ (sym (c .before .before .within .ensures) ∙ not-true _ (c .before .if1 .taken)))
-
-cast-start : tie.Need-cast-start
-cast-start c = record { fits = omega (arith, ends c, size-most (c .before .before .args .h .table)) }
-
-data-count-requires : tie.Need-data-count-requires
-data-count-requires c κs = search needs
-
-add-with-place : tie.Need-add-with-place
-add-with-place c = record { fits = omega (arith, ends (c .before), size-most (c .before .before .before .args .h .table), c .data-count .ensures) }
-
-with-place-requires : tie.Need-with-place-requires
-with-place-requires c κs = search needs
-
-returns-2 : tie.Need-returns-2
-returns-2 c =
+pub read-at-spec : {M : Type 1} → statement M
+read-at-spec =
+    tie.close
+    (tie.spec (λ c κs. search needs) (λ c κs. search needs)
+    (λ c. c .with-error .ensures ∙ sym (read-past _ _ _ (sym (c .before .before .within .ensures) ∙ not-true _ (c .before .if1 .taken))))
+    (λ c. record { fits = omega (arith, ends c, size-most (c .before .before .args .h .table)) }) (λ c κs. search needs)
+    (λ c. record { fits = omega (arith, ends (c .before), size-most (c .before .before .before .args .h .table), c .data-count .ensures) })
+    (λ c κs. search needs)
+    (λ c.
     let e = c .before .before in
     let a = e .before .before .args in
     ap (λ (q : Places). withGiven Nowhere (withPlaces q (withTransfer (Read (a .h) 0 (a .at)) (a .w))))
     (c .with-place .ensures ∙ ap (λ (k : ℕ). withReadPlace (a .h .table) (a .at + k) (a .w .places)) (c .before .data-count .ensures))
-    ∙ sym (read-taken _ _ _ (within-end e))
-
-pub read-at-spec : {M : Type 1} → statement M
-read-at-spec =
-    tie.close
-    (tie.spec
-    within-requires
-    with-error-requires
-    returns
-    cast-start
-    data-count-requires
-    add-with-place
-    with-place-requires
-    returns-2)
+    ∙ sym (read-taken _ _ _ (within-end e))))

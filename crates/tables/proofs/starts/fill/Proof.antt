@@ -19,60 +19,26 @@ Inv-loop step table₀ i₀ word₀ table i word = (i ≤ length table₀) × (l
 abbrev μ-loop : tie.MeasureT-loop
 μ-loop step table₀ i₀ word₀ table i word = length table₀ - i
 
-loop-holds : tie.Need-loop-holds Inv-loop μ-loop
+pub fill-spec : {M : Type 1} → statement M
 unfolding listed
-loop-holds c = search needs
-
-mul-table : tie.Need-mul-table Inv-loop μ-loop
-mul-table c = search needs
-
-slice-write-table : tie.Need-slice-write-table Inv-loop μ-loop
-slice-write-table c = search needs
-
-add-word : tie.Need-add-word Inv-loop μ-loop
-add-word c =
+fill-spec =
+    tie.close
+    (tie.spec Inv-loop μ-loop (λ c. search needs) (λ c. search needs) (λ c. search needs)
+    (λ c.
     let a = c .before .before .args in
     let i = c .before .loop .i in
     let near : i + 1 ≤ 128 = omega arith in
     let next : a .step * (i + 1) ≡ a .step * i + a .step = rw (add-one, mul-suc) in
     let most : a .step * (i + 1) ≤ 256 * 128 = mul-le-mul (c .before .before .pre .1) near in
-    omega arith
-
-add-i : tie.Need-add-i Inv-loop μ-loop
-add-i c = search needs
-
-loop-less : tie.Need-loop-less Inv-loop μ-loop
-loop-less c = search needs
-
-loop-again : tie.Need-loop-again Inv-loop μ-loop
-loop-again c =
+    omega arith) (λ c. search needs) (λ c. search needs)
+    (λ c.
     let a = c .before .before .args in
     let at = c .before .loop in
-    (omega arith, simp length-set (at .inv .1), rw (at .inv .2, add-one, mul-suc), rw (at .inv .2, at .inv .3) (listed-next _ (now (a .table)) (at .i) (search needs)))
-
-same-length : tie.Need-same-length Inv-loop μ-loop
-same-length c = search needs
-
-returns : tie.Need-returns Inv-loop μ-loop
-returns c =
+    (omega arith, simp length-set (at .inv .1), rw (at .inv .2, add-one, mul-suc), rw (at .inv .2, at .inv .3) (listed-next _ (now (a .table)) (at .i) (search needs))))
+    (λ c. search needs)
+    (λ c.
     let at = c .before .loop in
     let a = c .before .before .args in
     let end : at .i ≡ length (now (a .table)) = omega arith in
     let none = drop-of-length-le (now (a .table)) {i = at .i} (omega arith) in
-    rw (at .inv .3, none, append-nil, end)
-
-pub fill-spec : {M : Type 1} → statement M
-fill-spec =
-    tie.close
-    (tie.spec
-    Inv-loop
-    μ-loop
-    loop-holds
-    mul-table
-    slice-write-table
-    add-word
-    add-i
-    loop-less
-    loop-again
-    same-length
-    returns)
+    rw (at .inv .3, none, append-nil, end)))

@@ -4,9 +4,6 @@ use Rattle.tables.specs.Port.{startWords}
 use Rattle.tables.proofs.starts.start_words.Statement.{statement}
 use Rattle.tables.proofs.starts.start_words.Tie as tie
 
-returns : tie.Need-returns
-unfolding startWords
-returns c = refl
-
 pub start-words-spec : {M : Type 1} → statement M
-start-words-spec = tie.close (tie.spec returns)
+unfolding startWords
+start-words-spec = tie.close (tie.spec (λ c. refl))

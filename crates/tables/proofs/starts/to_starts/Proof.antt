@@ -14,26 +14,11 @@ use Rattle.tables.proofs.starts.to_starts.Tie as tie
 all-three : (a b d a′ b′ d′ : List ℕ) → a ≡ a′ → b ≡ b′ → d ≡ d′ → three a b d ≡ three a′ b′ d′
 all-three a b d a′ b′ d′ p q r = λ i. three (p i) (q i) (r i)
 
-fill-requires : tie.Need-fill-requires
-fill-requires c κs = search needs
-
-fill-requires-2 : tie.Need-fill-requires-2
-fill-requires-2 c κs = search needs
-
-fill-requires-3 : tie.Need-fill-requires-3
-fill-requires-3 c κs = search needs
-
-same-length : tie.Need-same-length
-same-length c = search needs
-
-same-length-2 : tie.Need-same-length-2
-same-length-2 c = search needs
-
-same-length-3 : tie.Need-same-length-3
-same-length-3 c = search needs
-
-returns : tie.Need-returns
-returns c =
+pub to-starts-spec : {M : Type 1} → statement M
+to-starts-spec =
+    tie.close
+    (tie.spec (λ c κs. search needs) (λ c κs. search needs) (λ c κs. search needs) (λ c. search needs) (λ c. search needs) (λ c. search needs)
+    (λ c.
     let f3 = c .before .before in
     let f2 = f3 .before .before .before .before in
     let f1 = f2 .before .before .before .before in
@@ -41,16 +26,4 @@ returns c =
     all-three _ _ _ _ _ _
     (f1 .fill .ensures ∙ filled Five 0 _ zero-mul (s .pre .0))
     (f2 .fill2 .ensures ∙ filled Six 0 _ zero-mul (s .pre .1))
-    (f3 .fill3 .ensures ∙ filled Seven 256 _ (λ i. refl) (s .pre .2))
-
-pub to-starts-spec : {M : Type 1} → statement M
-to-starts-spec =
-    tie.close
-    (tie.spec
-    fill-requires
-    fill-requires-2
-    fill-requires-3
-    same-length
-    same-length-2
-    same-length-3
-    returns)
+    (f3 .fill3 .ensures ∙ filled Seven 256 _ (λ i. refl) (s .pre .2))))

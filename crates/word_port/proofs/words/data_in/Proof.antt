@@ -14,7 +14,8 @@ use Rattle.word_port.proofs.words.data_in.Tie as tie
 data-in-requires : tie.Need-data-in-requires
 data-in-requires c κs =
     let e = c .before .before .before .before in
-    let fit = words-fit _ _ (rw (e .enum-told .given .1) at (e .before .before .word-gate .ensures)) in
+    let g = e .before .before in
+    let fit = words-fit _ _ (rw (e .enum-told .given .1) at (g .word-gate .ensures _ (g .before .before .before .before .sound .ensures))) in
     (fit .0 .0, fit .0 .1, fit .0 .2, fit .1)
 
 returns-2 : tie.Need-returns-2
@@ -22,24 +23,16 @@ unfolding wordCall wordOf wordLent answerSaid
 returns-2 c =
     let d = c .before .before .before .before .before .before in
     let e = d .before .before .before .before .before in
-    let p = e .before .before .before .before .before .before .before .before .before .before .args .pod in
+    let g = e .before .before in
+    let p = g .before .before .before .before .before .before .before .before .before .args .pod in
     ap (λ (s : Tabled). given (worded (wordWritten s) p)) (d .data-in .ensures)
-    ∙ given-is _ _ _ (rw (e .enum-told .given .1) at (e .before .before .word-gate .ensures))
+    ∙ given-is _ _ _ (rw (e .enum-told .given .1) at (g .word-gate .ensures _ (g .before .before .before .before .sound .ensures)))
 
 pub data-in-spec : {M : Type 1} → statement M
 unfolding wordCall wordLent answerSaid
 data-in-spec =
     tie.close
-    (tie.spec
-    (λ c κs. search needs)
-    (λ c. search needs)
-    (λ c. search needs)
-    data-in-requires
-    (λ c. search needs)
-    (λ c. search needs)
-    (λ c. search needs)
-    (λ c. refused-is _ _ _ (rw (c .before .gate .given .1) at (c .before .before .before .word-gate .ensures)))
-    (λ c. search needs)
-    (λ c. search needs)
-    (λ c. search needs)
-    returns-2)
+    (tie.spec (λ c κs. search needs) (λ c κs. search needs) (λ c. search needs) (λ c. search needs) data-in-requires (λ c. search needs)
+    (λ c. search needs) (λ c. search needs)
+    (λ c. refused-is _ _ _ (rw (c .before .gate .given .1) at (c .before .before .before .word-gate .ensures _ (c .before .before .before .before .before .before .before .sound .ensures))))
+    (λ c. search needs) (λ c. search needs) (λ c. search needs) returns-2)

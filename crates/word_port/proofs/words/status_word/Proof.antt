@@ -18,9 +18,5 @@ returns-2 c d =
 pub status-word-spec : {M : Type 1} → statement M
 unfolding wordCall wordLent answerSaid refusalNumber
 status-word-spec =
-    tie.close
-    (tie.spec
-    (λ c κs. search needs)
-    (λ c d. refused-is _ _ _ (here (as-row (c .before .sound .ensures) (c .if1 .taken))))
-    (λ c κs. search needs)
-    returns-2)
+    tie.close (tie.spec (λ c κs. search needs) (λ c d. refused-is _ _ _ (here (as-row (c .before .sound .ensures) (c .if1 .taken))))
+    (λ c κs. search needs) returns-2)

@@ -1,0 +1,34 @@
+-- Every bound, by computation.
+-- Assumes nothing.
+use mathlib.Core.Path.{refl}
+use Rattle.rows.specs.Rows.{ran}
+use Rattle.packets.specs.Commands.{fieldsBounded}
+use Rattle.packets.specs.Reading.{packetRead}
+use Rattle.params.specs.Rules.{isId, inRows, soundParams, startParams, writeAllowed}
+use Rattle.blocks.specs.Stores.{storeSized, soundRing}
+use Rattle.tables.specs.Bounds.{soundPlaces, soundTransfer, soundWords}
+use Rattle.tables.specs.Port.{startWords}
+use Rattle.tables.specs.Tables.{listed, startTable, tablesSized}
+use Rattle.pipe.specs.Input.{emptyInput, freshInput, soundInput}
+use Rattle.pipe.specs.Pipe.{freshPipe, soundPipe}
+use Rattle.frames.specs.Samples.{boundedOf}
+use Rattle.rules.specs.Calls.{powerCall, packetHeard, spokenBytes, answered, packetCall, deadlineCall, samplesCall}
+use Rattle.rules.specs.State.{freshFields, freshPod, restful, soundPod}
+use Rattle.rules.specs.World.{step}
+use Rattle.examples.specs.Shown.{AsExpected}
+use Rattle.examples.specs.Bounds.{Starts, valuesBounded, bounds, Bounds}
+
+pub all-starts : Starts
+unfolding startParams
+all-starts = refl
+
+pub all-values : AsExpected valuesBounded
+unfolding ran isId inRows soundParams startParams writeAllowed storeSized soundRing soundPlaces soundTransfer soundWords startWords listed startTable tablesSized emptyInput freshInput soundInput freshPipe soundPipe boundedOf packetRead packetHeard spokenBytes answered powerCall packetCall deadlineCall samplesCall freshFields freshPod restful soundPod fieldsBounded step
+all-values = refl
+
+pub all-rest : AsExpected bounds
+unfolding ran isId inRows soundParams startParams writeAllowed storeSized soundRing soundPlaces soundTransfer soundWords startWords listed startTable tablesSized emptyInput freshInput soundInput freshPipe soundPipe boundedOf packetRead packetHeard spokenBytes answered powerCall packetCall deadlineCall samplesCall freshFields freshPod restful soundPod fieldsBounded step
+all-rest = refl
+
+pub all-bounds : Bounds
+all-bounds = record { starts = all-starts; values = all-values; rest = all-rest }

@@ -1,0 +1,52 @@
+-- The table words, by computation: which command words there are, where a load or a read ends, and that three tables stand apart.
+-- Assumes nothing.
+use Prim.Native.Nat.{ℕ, _*_}
+use mathlib.Core.List.{List, [], _∷_, _++_, map}
+use lib.ListN.{replicate}
+use Rattle.tables.specs.Tables.{listed}
+use Rattle.rules.specs.World.{Call, final}
+use Rattle.examples.specs.Shown.{justInitialised, wordsOut, statusAfter, fiveAfter, order, loading, reading, load, read, Line, line, AsExpected}
+use Rattle.examples.specs.Computed.{shows}
+
+-- table 6 after some calls, and table 7
+abbrev pub sixAfter : List Call → List ℕ
+sixAfter cs = final justInitialised cs .lent .tables .six
+
+abbrev pub sevenAfter : List Call → List ℕ
+sevenAfter cs = final justInitialised cs .lent .tables .seven
+
+-- three words loaded to table 6, one to table 7, one to table 5
+abbrev pub loaded : ℕ → ℕ → ℕ → List Call
+loaded x y z = order 0x8C06 ++ loading (6 ∷ 1 ∷ 3 ∷ x ∷ y ∷ z ∷ []) ++ order 0x8E04 ++ loading (7 ∷ 1 ∷ 1 ∷ x ∷ []) ++ load 5 0 1 y
+
+-- each table's first words, read
+abbrev pub readsEach : List Call
+readsEach = order 0x4C06 ++ reading 6 ++ order 0xCE06 ++ reading 6 ++ read
+
+-- the table; x, y and z are any words
+abbrev pub words : ℕ → ℕ → ℕ → List Line
+words x y z =
+    -- "Starts: tables 5 and 6 all 0; table 7 word i is 256 times i"
+    line (fiveAfter []) (replicate 64 0)
+    ∷ line (sixAfter []) (replicate 128 0)
+    ∷ line (sevenAfter []) (listed (λ (i : ℕ). 256 * i) 64)
+    -- a load goes to its own table; "that table's read place": each moves alone
+    ∷ line (wordsOut (loaded x y z ++ readsEach ++ readsEach ++ shows))
+    (6 ∷ 0 ∷ 3 ∷ 0 ∷ x ∷ y ∷ 7 ∷ 0 ∷ 3 ∷ 0 ∷ x ∷ 512 ∷ 5 ∷ 0 ∷ 1 ∷ y ∷ 6 ∷ 3 ∷ 3 ∷ z ∷ 0 ∷ 0 ∷ 7 ∷ 3 ∷ 3 ∷ 768 ∷ 1024 ∷ 1280 ∷ 5 ∷ 1 ∷ 1 ∷ 0 ∷ 0 ∷ [])
+    -- "Any other": commands 13, 21, 4 and 8; N 260; 1 writing N 2, 1 reading; 0 writing N 2, 0 reading
+    ∷ line (wordsOut (order 0x9A04 ++ shows ++ order 0xAA04 ++ shows ++ order 0x8804 ++ shows ++ order 0x9004 ++ shows ++ order 0x8B04 ++ shows))
+    (replicate 5 2)
+    ∷ line (wordsOut (order 0x8202 ++ shows ++ order 0x4201 ++ shows ++ order 0x0002 ++ shows ++ order 0xC001 ++ shows)) (replicate 4 2)
+    -- "N 4 to 64": a load of 61 words up to the table's end
+    ∷ line (fiveAfter (order 0x0A40 ++ loading (5 ∷ 3 ∷ 61 ∷ replicate 61 x))) (replicate 3 0 ++ replicate 61 x)
+    -- "address plus count at most the table's size", "a read that would pass its table's end": 127 of table 6, and 128
+    ∷ line (wordsOut (order 0x0C04 ++ loading (6 ∷ 127 ∷ 1 ∷ x ∷ []) ++ order 0x8201 ++ loading (127 ∷ []) ++ order 0xCC04 ++ reading 4 ++ shows))
+    (6 ∷ 127 ∷ 1 ∷ x ∷ 0 ∷ [])
+    ∷ line (sixAfter (order 0x0C04 ++ loading (6 ∷ 128 ∷ 1 ∷ x ∷ []))) (replicate 128 0)
+    ∷ line (wordsOut (order 0x0C04 ++ loading (6 ∷ 128 ∷ 1 ∷ x ∷ []) ++ shows ++ order 0x8201 ++ loading (128 ∷ []) ++ order 0xCC04 ++ shows)) (2 ∷ 2 ∷ [])
+    -- two words from 63 on pass the end of table 5
+    ∷ line (fiveAfter (order 0x8A05 ++ loading (5 ∷ 63 ∷ 2 ∷ x ∷ y ∷ [])) ++ statusAfter (order 0x8A05 ++ loading (5 ∷ 63 ∷ 2 ∷ x ∷ y ∷ []))) (replicate 64 0 ++ (2 ∷ []))
+    ∷ []
+
+abbrev pub WordsComputed : Type 0
+WordsComputed = (x y z : ℕ) → AsExpected (words x y z)

@@ -1,0 +1,1 @@
+"""What tests/interface.py is made of: the sheet's tables, and what each is held against."""
