@@ -1,0 +1,108 @@
+#!/usr/bin/env python3
+"""Holds the logs of the must-fail edits against what the edits are for. `rt must-fail` asks that each edit is refused; one edit
+may hold a wrong line for each of several functions, so here each of these functions must have been refused by itself, and
+each edit that docs/PROMISES.md names for a statement must have failed at that statement's proof. Needs target/must-fail, as
+`rt ci` or `rt must-fail` leave it."""
+import pathlib
+import re
+import sys
+
+ROOT = pathlib.Path(__file__).resolve().parent.parent
+PROOFS = {'Shown': 'all-shown', 'Computed': 'all-computed', 'Edges': 'all-edges', 'Conversation': 'conversed', 'Bounds': 'all-bounds'}
+HEAD = re.compile(r'^\s*(?:pub )?fn (\w+)', re.M)
+failures = []
+
+
+def fail(what):
+    failures.append(what)
+    print('edits:', what)
+
+
+def pairs(edit):
+    """The file and the old text of each wrong line."""
+    file = None
+    for line in edit.read_text().split('\n'):
+        if line.startswith('file: '):
+            file = line[6:]
+        elif line.startswith('old: '):
+            yield file, line[5:]
+
+
+def function_at(crate, file, old):
+    text = (ROOT / 'crates' / crate / file).read_text()
+    heads = [m.group(1) for m in HEAD.finditer(text, 0, text.index(old) + len(old))]
+    return heads[-1] if heads else None
+
+
+def log_of(crate, label):
+    path = ROOT / 'target' / 'must-fail' / crate / label / '.log'
+    if not path.exists():
+        fail(f'{crate}/{label} has no log: it was not tried')
+        return ''
+    return path.read_text()
+
+
+def refused(log, name):
+    """Whether the function was refused by itself, and not for one that it calls."""
+    return re.search(rf'^fn \S*::{name}: (?:not proved$|no proof)', log, re.M) is not None
+
+
+def functions():
+    """Each wrong line of code is refused at the function that it stands in."""
+    count = 0
+    for edit in sorted(ROOT.glob('crates/*/must-fail/*.edit')):
+        crate = edit.parent.parent.name
+        for file, old in pairs(edit):
+            if not file.startswith('src/'):
+                continue
+            count += 1
+            name = function_at(crate, file, old)
+            if name is None or not refused(log_of(crate, edit.stem), name):
+                fail(f'{crate}/{edit.stem}: the wrong line of {name} is not refused there')
+    return count
+
+
+def proof_of(statement):
+    return PROOFS.get(statement) or re.sub(r'(?<=.)([A-Z])', r'-\1', statement).lower()
+
+
+def rows():
+    """Each row of the table 'Statement, edits that break it': statements and edits."""
+    text = (ROOT / 'docs' / 'PROMISES.md').read_text()
+    table = text.split('| Statement | Edits that break it |', 1)[1].split('\n\n', 1)[0]
+    for row in table.split('\n')[2:]:
+        cells = row.split('|')
+        yield re.findall(r'`(\w+)`', cells[1]), re.findall(r'\w+', cells[2])
+
+
+def fields(path):
+    return re.findall(r'^ +pub [\w-]+ : (\w+)', (ROOT / path).read_text(), re.M)
+
+
+def statements():
+    """Each statement has its row, and each edit of the row fails at its proof."""
+    seen = {}
+    for names, edits in rows():
+        for name in names:
+            seen[name] = edits
+            for label in edits:
+                crate = next((c for c in ('rules', 'examples') if (ROOT / 'crates' / c / 'must-fail' / f'{label}.edit').exists()), None)
+                if crate is None:
+                    fail(f'{name}: there is no edit {label}')
+                elif not re.search(rf'error: `{proof_of(name)}`', log_of(crate, label)):
+                    fail(f'{name}: {crate}/{label} does not fail at {proof_of(name)}')
+    for name in fields('crates/rules/specs/Whole.antt') + fields('crates/examples/specs/Examples.antt'):
+        if name not in seen:
+            fail(f'the statement {name} has no row in docs/PROMISES.md')
+    return len(seen)
+
+
+def main():
+    lines, said = functions(), statements()
+    if failures:
+        return 1
+    print(f'edits: ok, {lines} wrong lines refused at their functions, {said} statements at their proofs')
+    return 0
+
+
+sys.exit(main())
