@@ -67,7 +67,7 @@ class Job:
         """What is printed of a difference."""
         seed, number = self.places[at]
         return "\n".join((
-            "difference in %s: seed %d, line %d" % (self.program, seed, number),
+            "difference in %s: seed %s, line %d" % (self.program, seed, number),
             "  line     " + text(self.lines[at]), "  expected " + text(self.answers[at]),
             "  came     " + text(came), "  exit status of the run %d" % status))
 
@@ -108,12 +108,12 @@ def jobs(seeds):
         yield session_job(seed, turn % 2 == 1)
 
 
-def play(seeds):
-    """Run all; the count of lines, or exit at the first difference."""
+def play(made):
+    """Run jobs as they are made; the count of lines, or exit at the first difference."""
     lines = 0
     waiting = []
     with ThreadPoolExecutor(max_workers=2) as pool:
-        for job in jobs(seeds):
+        for job in made:
             job.start(pool)
             waiting.append(job)
             lines += len(job.lines)
@@ -140,9 +140,9 @@ def main():
     parser.add_argument("--rules", action="store_true", help="print each rule with its count")
     options = parser.parse_args()
     if options.seed is not None:
-        print("differential: ok, seed %d, %d lines" % (options.seed, play([options.seed])))
+        print("differential: ok, seed %d, %d lines" % (options.seed, play(jobs([options.seed]))))
         return 0
-    lines = play(range(options.sessions))
+    lines = play(jobs(range(options.sessions)))
     if options.rules:
         print(labels.table(), end="")
     if labels.missing():

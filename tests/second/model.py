@@ -5,21 +5,31 @@ each of its branches counts its passages (ports/labels.py). `python3 model.py` r
 examples that document 01 shows.
 """
 
-from ports.blocks import ORDINARY, PRIORITY, Blocks
+from ports.blocks import Blocks
 from ports.commands import Commands
 from ports.frames import Frames
 from ports.lines import console_line, session_line
 from ports.packets import Packets
 from ports.params import Parameters
+from ports.refusal import Rows
+from ports.sizes import ORDINARY, PRIORITY
 from ports.words import Words
 
 __all__ = ["Pod", "console_line", "session_line"]
 
 
-class Pod(Packets, Commands, Parameters, Blocks, Words, Frames):
+class Pod(Rows, Packets, Commands, Parameters, Blocks, Words, Frames):
     """The pod with its two stores and three tables, one method for each call."""
 
     def __init__(self):
+        self.lend_right()
+        self.stores_new()
+        self.power_on()
+
+    def power(self):
+        """The power on call."""
+        self.rows("power on")
+        self.forget_transfer("power")
         self.power_on()
 
     def power_on(self):

@@ -1,8 +1,9 @@
-"""Document 01's shown examples, asserted of the model."""
+"""Document 01's shown examples and the lines of `lab`, asserted of the model."""
 
 from model import Pod, console_line, session_line
-from ports.blocks import ORDINARY, PRIORITY
+from ports.lab import lab_line
 from ports.packets import crc, is_acknowledgement, sealed
+from ports.sizes import ORDINARY, PRIORITY
 
 FIELDS = bytes.fromhex("00 0000 00000000 0010 0010 00000080 00000080 03E8")
 
@@ -14,11 +15,12 @@ def initialised():
     return pod
 
 
-def talk(pod, text):
+def talk(pod, text, answer_to=console_line):
     """Lines and what they print, as 'line => answer' in each row of the text."""
     for row in text.strip().splitlines():
         line, expected = (part.strip().encode() for part in row.split("=>"))
-        assert console_line(pod, line) == expected, (row, console_line(pod, line))
+        answer = answer_to(pod, line)
+        assert answer == expected, (row, answer)
 
 
 def shown_crc():
@@ -92,7 +94,7 @@ def drop_without_a_block():
     assert pod.packet(acknowledgement) == b"" and pod.remaining[PRIORITY] == 16
     pod.put(PRIORITY, bytes(256))
     pod.remaining[PRIORITY], pod.exchange = 0, PRIORITY
-    assert pod.packet(acknowledgement) == b"" and len(pod.blocks[PRIORITY]) == 1
+    assert pod.packet(acknowledgement) == b"" and pod.waiting[PRIORITY] == 1
     assert pod.remaining == {PRIORITY: 0, ORDINARY: 128}
 
 
@@ -109,10 +111,80 @@ def refused_lines():
     assert pod.packet(sealed(b"\x95\x01")) == sealed(b"\x95\x01" + bytes(256))
 
 
+def by_bits(data):
+    """The CRC a bit at a time, from its polynomial."""
+    rest = 0xFFFF
+    for bit in (byte >> place & 1 for byte in data for place in range(7, -1, -1)):
+        rest = rest << 1 & 0xFFFF ^ (0x1021 if rest >> 15 ^ bit else 0)
+    return "%04X" % rest
+
+
+def lab_shown():
+    """V: fresh from power, and with every part another number."""
+    memory = " ".join(map(by_bits, (bytes(16 * 256), bytes(128 * 256), bytes(128), bytes(256),
+                                    b"".join(bytes((i, 0)) for i in range(64)))))
+    starts = "-2000 12000 950 1000 16 2000 0 0 0 0 0 0"
+    pod = Pod()
+    talk(pod, "V => V 0 0 0 0 0 0 0 0 0 1000 %s %s 0 0 0 0 0 0 0 0 0 0 -1 0 0 0 0 0 0 FFFF FFFF %s" % (
+        starts, " ".join("0" * 12), memory), lab_line)
+    sets = """initialised 1 mode 2 flags 3 seconds 4 milliseconds 5 limit0 6 remaining0 7 limit1 8 remaining1 9
+        poll 10 param1 11 param2 12 param3 13 param4 14 param5 15 param6 16 param7 17 param8 18 param9 19 param10 20
+        param11 21 param12 -22 written1 1 written4 1 written12 1 exchange 148 error 1 place5 26 place6 27 place7 28
+        address 29 oldest0 30 waiting0 31 oldest1 32 waiting1 33 gathered 8 timeouts 34""".split()
+    for name, number in zip(sets[::2], sets[1::2]):
+        talk(pod, "X %s %s => X" % (name, number), lab_line)
+    talk(pod, "X transfer 6 1 23 24 25 => X", lab_line)
+    talk(pod, "V => V 1 2 3 4 5 6 7 8 9 10 11 12 13 14 15 16 17 18 19 20 21 -22 1 0 0 1 0 0 0 0 0 0 0 1 148 1 "
+         "6 1 23 24 25 26 27 28 29 30 31 32 33 8 34 %s FFFF %s" % (by_bits(bytes(8)), memory), lab_line)
+
+
+def lab_refused():
+    """A state out of bounds is refused by 3 and a size by 1 or 2, for one call; Z works in every
+    state, and is refused by 2."""
+    pod = Pod()
+    talk(pod, "X mode 4 => X\n P => P !3\n D => D !3\n B p => B !3\n C 8000 => C !3\n W 0000 => W !3\n R => R !3\n"
+         "S => S !3\n A 00 => A !3\n I 00 => I !3\n T => T !3\n L 5 65 => L\n C 8000 => C !2\n C 8000 => C !3\n"
+         "Z => Z\n P => P -", lab_line)
+    talk(pod, "L room 259 => L\n L 7 1088 => L\n L p 5121 => ?\n V 1 => ?\n X mode 256 => ?\n X mode 4 => X\n"
+         "P => P !1\n P => P !3\n L room 259 => L\n S => S !3\n Z => Z\n P => P -\n L 6 0 => L\n Z => Z !2\n Z => Z\n"
+         "L o 0 => L\n L room 0 => L\n Z => Z\n P => P -\n L 5 0 => L\n L 5 64 => L\n R => R 0000\n"
+         "L room 1284 => L\n P => P -\n L room 1285 => ?\n P => P -", lab_line)
+
+
+def lab_read():
+    """What is no line of X or L, and numbers in each of their forms."""
+    pod = Pod()
+    talk(pod, "X seconds 0000000007 => X\n X seconds 00000000007 => ?\n X poll -0 => X\n X exchange -01 => X\n"
+         "X exchange 0 => ?\n X exchange 147 => ?\n X address 65536 => ?\n X address -1 => X\n X gathered 9 => ?\n"
+         "X param13 0 => ?\n X param0 0 => ?\n X param12 -2147483648 => X\n X param12 2147483648 => ?\n X mode => ?\n"
+         "X mode 1 2 => ?\n X  mode 1 => ?\n X mode +1 => ?\n L 4 64 => ?\n L room -1 => ?\n L room -0 => L", lab_line)
+    talk(pod, "X transfer 1 0 1 0 0 => X\n X transfer 1 0 2 0 0 => ?\n X transfer 5 0 255 255 0 => X\n"
+         "X transfer 5 0 4 0 1 => ?\n X transfer 5 1 4 0 255 => X\n X transfer 5 2 4 0 0 => ?\n"
+         "X transfer 4 0 4 0 0 => ?\n X transfer 0 0 0 0 0 => ?\n X transfer -1 => X\n X transfer 5 0 4 0 => ?",
+         lab_line)
+    assert pod.transfer is None and pod.seconds == 7 and pod.poll == 0 and pod.sizes["room"] == 0
+
+
+def lab_memory():
+    """The words of an open load, at most 64; the ring's first place behind its last; bytes that
+    power keeps."""
+    pod = Pod()
+    shown = lambda: lab_line(pod, b"V").decode().split()[-7:]
+    talk(pod, "X initialised 1 => X\n X transfer 5 0 6 2 0 => X\n W 0103 => W", lab_line)
+    assert shown()[1] == by_bits(b"\0\0\0\0\x01\x03")
+    talk(pod, "X transfer 5 0 6 70 0 => X", lab_line)
+    assert shown()[1] == by_bits(bytes(128))
+    talk(pod, "X transfer -1 => X\n X oldest0 15 => X\n X waiting0 1 => X\n B p%s => B\n Z => Z" % (" 5A" * 256),
+         lab_line)
+    assert shown()[1:3] == ["FFFF", by_bits(b"\x5A" * 256 + bytes(15 * 256))]
+    talk(pod, "X initialised 1 => X\n I 01 => I -\n X gathered 2 => X\n I 02 => I -", lab_line)
+    assert shown()[0] == by_bits(b"\0\0\x02")
+
+
 def run():
     """All of them."""
     for part in (shown_crc, shown_words, shown_acknowledgement, shown_frames, shown_session,
-                 drop_without_a_block, refused_lines):
+                 drop_without_a_block, refused_lines, lab_shown, lab_refused, lab_read, lab_memory):
         part()
     print("model: ok, the shown examples hold")
 

@@ -18,10 +18,10 @@ fn samples_gate(pod: Pod, check: u8, set: &[u16]) -> Gate
     if !sound(pod) {
         return Gate::Shut(Refusal::State);
     }
-    if set.len() != 128 {
+    if set.len() != frames::SET {
         return Gate::Shut(Refusal::Count);
     }
-    let within = frames::bounded(set) & (check <= 31);
+    let within = frames::bounded(set) & (check <= frames::CHECK);
     if !within {
         return Gate::Shut(Refusal::Over);
     }

@@ -9,6 +9,12 @@ ghost use Rattle.frames.specs.Samples.{channels, sumOf, averagesOf, boun
 ghost use Rattle.frames.specs.Fields.{part, frame};
 ghost use Rattle.frames.specs.Layout.{lines03, lines47, framesOf};
 
+// The samples of a set: eight channels by sixteen passes.
+pub const SET: usize = 128;
+
+// The greatest self-check number: it has five bits in its frame.
+pub const CHECK: u8 = 31;
+
 // The two frames of eight bytes, AN03 and AN47.
 pub struct Frames {
     pub an03: [u8; 8],

@@ -2,6 +2,7 @@
 -- Assumes nothing.
 use Prim.Native.Nat.{ℕ, suc, _≤_}
 use mathlib.Core.Path.{_≡_}
+use mathlib.Core.Bool.{true, false}
 use mathlib.Core.List.{List}
 use lib.ListN.{length}
 use Rattle.rules.specs.declared.Pod.{Pod}
@@ -14,11 +15,13 @@ use Rattle.line_calls.specs.declared.Sizes.{Sizes}
 use Rattle.line_calls.specs.declared.Spoken.{Spoken}
 use Rattle.line_calls.specs.Memory.{Memory, lentAt}
 use Rattle.line_calls.specs.Promise.{stepOf, LentAnswered}
+use Rattle.lab_calls.specs.declared.Noted.{Noted}
+use Rattle.lab_calls.specs.Own.{ownOf, shownIn, withLoad, OwnAnswered}
 use Rattle.line_loop.specs.declared.Program.{Program}
 use Rattle.line_loop.specs.declared.Between.{Between}
 use Rattle.line_loop.specs.declared.Standing.{Standing}
 use Rattle.line_loop.specs.declared.Desk.{Desk}
-use Rattle.line_loop.specs.Lines.{textOf, askingOf, sizesAfter}
+use Rattle.line_loop.specs.Lines.{textOf, askingOf, ownIn, sizesAfter}
 
 -- no size is over that of the loop's arrays
 pub record Within (s : Sizes) : Type 0 where
@@ -36,11 +39,25 @@ spoken b = record { pod = b .pod; at = b .at }
 abbrev pub textPrinted : Program → List ℕ → Between → Memory → List ℕ
 textPrinted p t b m = lineText (askingOf p t .asked) (stepOf (askingOf p t .asked) (b .pod) (lentAt (b .sizes) m) .told)
 
--- a text is answered as the rules answer what it asks, by one line: its first newline is its last character
-pub record TextAnswered (p : Program) (t : List ℕ) (b b′ : Between) (m m′ : Memory) (o o′ : List ℕ) : Type 0 where
+-- a call is answered as the rules answer what the text asks, by one line: its first newline is its last character
+pub record CallAnswered (p : Program) (t : List ℕ) (b b′ : Between) (m m′ : Memory) (o o′ : List ℕ) : Type 0 where
   pub answered : LentAnswered (askingOf p t .asked) (b .pod) (b .sizes) m m′ (spoken b′) o o′ (b .at)
   pub sizes : b′ .sizes ≡ sizesAfter (askingOf p t .asked) (b .sizes)
   pub line : suc (before (textPrinted p t b m)) ≡ length (textPrinted p t b m)
+
+abbrev pub noted : Between → Noted
+noted b = record { pod = b .pod; sizes = b .sizes; at = b .at }
+
+-- a line of lab's own is answered as it says, by one line; of the memory only the words of a load may change
+pub record OwnText (t : List ℕ) (b b′ : Between) (m m′ : Memory) (o o′ : List ℕ) : Type 0 where
+  pub answered : OwnAnswered t (b .pod) (b .sizes) (shownIn m) (noted b′) (m′ .load) (b .at) o o′
+  pub rest : m′ ≡ withLoad (m′ .load) m
+  pub line : suc (before (ownOf t (b .pod) (b .sizes) (shownIn m) .text)) ≡ length (ownOf t (b .pod) (b .sizes) (shownIn m) .text)
+
+-- a text is a line of lab's own, or else it calls or asks nothing
+pub data TextAnswered (p : Program) (t : List ℕ) (b b′ : Between) (m m′ : Memory) (o o′ : List ℕ) : Type 0 where
+  own : ownIn p t ≡ true → OwnText t b b′ m m′ o o′ → TextAnswered p t b b′ m m′ o o′
+  call : ownIn p t ≡ false → CallAnswered p t b b′ m m′ o o′ → TextAnswered p t b b′ m m′ o o′
 
 -- all that a turn may change: where the next line starts and what is held of it; what stands between two lines; the memory that is lent,
 -- and the output

@@ -4,20 +4,22 @@ use crate::Program;
 use crate::Standing;
 use crate::asking::asked;
 use crate::asking::next_sizes;
+use crate::asking::own;
 use crate::asking::text;
+use lab_calls::own_line;
 use line_calls::answer;
 use lines::Found;
 use lines::next_line;
 ghost use Prim.Native.Nat.{_+_, _≤_};
 ghost use lib.ListN.{length};
 ghost use Rattle.line_calls.specs.Memory.{memory};
-ghost use Rattle.line_loop.specs.Turns.{Within, TextAnswered, stand, Turns, Fine};
+ghost use Rattle.line_loop.specs.Turns.{Within, CallAnswered, TextAnswered, stand, Turns, Fine};
 
-// The longest line of output has 784 characters: with fewer left, what is gathered is written first.
-const ENOUGH: usize = 64752;
+// The longest line of output has 1,121 characters: with fewer left, what is gathered is written first.
+const ENOUGH: usize = 64415;
 
 // A text's call and its answer.
-pub fn answered(
+fn called(
     program: Program,
     text: &[u8],
     between: Between,
@@ -35,7 +37,7 @@ pub fn answered(
     requires { ⌜ length (now text) ≤ 196606 ⌝ }
     requires { ⌜ Within (between .sizes) ⌝ }
     requires { ⌜ between .at + 784 ≤ 65536 ⌝ }
-    ensures { λ r. ⌜ TextAnswered program (now (text .entry)) between r (memory (now (room .entry)) (now (priority .entry)) (now (ordinary .entry)) (now (five .entry)) (now (six .entry)) (now (seven .entry)) (now (load .entry))) (memory (now (room .exit)) (now (priority .exit)) (now (ordinary .exit)) (now (five .exit)) (now (six .exit)) (now (seven .exit)) (now (load .exit))) (now (out .entry)) (now (out .exit)) ⌝ }
+    ensures { λ r. ⌜ CallAnswered program (now (text .entry)) between r (memory (now (room .entry)) (now (priority .entry)) (now (ordinary .entry)) (now (five .entry)) (now (six .entry)) (now (seven .entry)) (now (load .entry))) (memory (now (room .exit)) (now (priority .exit)) (now (ordinary .exit)) (now (five .exit)) (now (six .exit)) (now (seven .exit)) (now (load .exit))) (now (out .entry)) (now (out .exit)) ⌝ }
 {
     let sizes = between.sizes;
     let pod = between.pod;
@@ -63,6 +65,69 @@ pub fn answered(
         sizes: next_sizes(line, sizes),
         at: spoken.at,
     }
+}
+
+// A text answered: a line of lab's own, or a call.
+pub fn answered(
+    program: Program,
+    text: &[u8],
+    between: Between,
+    bytes: &mut [u8; 65536],
+    words: &mut [u16; 65536],
+    room: &mut [u8; 1284],
+    priority: &mut [u8; 5120],
+    ordinary: &mut [u8; 33792],
+    five: &mut [u16; 1088],
+    six: &mut [u16; 1152],
+    seven: &mut [u16; 1088],
+    load: &mut [u16; 64],
+    out: &mut [u8; 65536],
+) -> Between
+    requires { ⌜ length (now text) ≤ 196606 ⌝ }
+    requires { ⌜ Within (between .sizes) ⌝ }
+    requires { ⌜ between .at + 1121 ≤ 65536 ⌝ }
+    ensures { λ r. ⌜ TextAnswered program (now (text .entry)) between r (memory (now (room .entry)) (now (priority .entry)) (now (ordinary .entry)) (now (five .entry)) (now (six .entry)) (now (seven .entry)) (now (load .entry))) (memory (now (room .exit)) (now (priority .exit)) (now (ordinary .exit)) (now (five .exit)) (now (six .exit)) (now (seven .exit)) (now (load .exit))) (now (out .entry)) (now (out .exit)) ⌝ }
+{
+    if own(program, text) {
+        let pod = between.pod;
+        let sizes = between.sizes;
+        let at = between.at;
+        let noted = own_line(
+            text,
+            pod,
+            sizes,
+            priority,
+            ordinary,
+            five,
+            six,
+            seven,
+            load,
+            out,
+            at,
+        );
+        let next = noted.pod;
+        let lent = noted.sizes;
+        return Between {
+            pod: next,
+            sizes: lent,
+            at: noted.at,
+        };
+    }
+    called(
+        program,
+        text,
+        between,
+        bytes,
+        words,
+        room,
+        priority,
+        ordinary,
+        five,
+        six,
+        seven,
+        load,
+        out,
+    )
 }
 
 // The lines of a piece, one after another, until the piece ends or the output is nearly full.

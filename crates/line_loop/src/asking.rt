@@ -1,5 +1,6 @@
 // What a line that was found asks.
 use crate::Program;
+use lab_calls::is_own;
 use line_calls::Sizes;
 use line_calls::right_sizes;
 use lines::Found;
@@ -10,7 +11,7 @@ ghost use Prim.Native.Nat.{ℕ, _≤_};
 ghost use lib.ListN.{length};
 ghost use Rattle.lines.specs.Cut.{foundIn};
 ghost use Rattle.line_calls.specs.Calls.{heardLine};
-ghost use Rattle.line_loop.specs.Lines.{textOf, askingOf, sizesAfter};
+ghost use Rattle.line_loop.specs.Lines.{textOf, askingOf, ownIn, sizesAfter};
 
 // The text of a line: a part of the piece, or what is held of it. One that is too long is read as an empty one: both are
 // another line.
@@ -41,6 +42,18 @@ pub fn asked(
     match program {
         Program::Session => lines::packet_line(text, bytes),
         Program::Console => lines::read_line(text, bytes, words),
+        Program::Lab => lines::read_line(text, bytes, words),
+    }
+}
+
+// Whether a text is a line of lab's own: no call.
+pub fn own(program: Program, text: &[u8]) -> bool
+    ensures { λ r. ⌜ r ≡ ownIn program (now (text .entry)) ⌝ }
+{
+    match program {
+        Program::Session => false,
+        Program::Console => false,
+        Program::Lab => is_own(text),
     }
 }
 

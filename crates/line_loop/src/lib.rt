@@ -8,10 +8,11 @@ use lines::Cursor;
 use rules::Pod;
 pub use turns::run;
 
-// Which lines a program answers: session packets alone, console those of every port.
+// Which lines a program answers: session packets alone, console those of every port, lab those and its own.
 pub enum Program {
     Session,
     Console,
+    Lab,
 }
 
 // What stands between two lines: the pod, how much of each thing is lent to the next call, and the output's place.

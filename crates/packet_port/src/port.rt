@@ -137,7 +137,7 @@ fn packet_gate(
 ) -> Gate
     ensures { λ r. ⌜ ((l : Lent) (p : Pod) → ok ≡ soundPod p → Gated r (packetRows (roomed (now (room .entry)) (withTables (three (now (five .entry)) (now (six .entry)) (now (seven .entry))) (withStores (now (priority .entry)) (now (ordinary .entry)) l))) p)) ⌝ }
 {
-    if room.len() < 260 {
+    if room.len() < packets::ROOM {
         return Gate::Shut(Refusal::Room);
     }
     let sized = blocks::sized(Store::Priority, priority)

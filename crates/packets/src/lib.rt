@@ -10,6 +10,9 @@ pub use writing::write_error;
 pub use writing::write_status;
 pub use writing::write_value;
 
+// The longest answer, a block's, and so the least room.
+pub const ROOM: usize = 260;
+
 // What Initialise and Update carry.
 pub struct Fields {
     pub mode: u8,

@@ -1,10 +1,8 @@
 """Moves on the other ports: blocks, samples, pipe, power, and lines that are none."""
 
-from ports.blocks import CAPACITY, ORDINARY, PRIORITY
+from ports.sizes import CAPACITY, LETTERS, ORDINARY, PRIORITY
 
 from . import packets
-
-LETTER = {PRIORITY: b"p", ORDINARY: b"o"}
 
 
 def digits(data):
@@ -14,7 +12,7 @@ def digits(data):
 
 def put_line(rng, store):
     """A put of a whole block."""
-    return b"B " + LETTER[store] + digits(rng.randbytes(256))
+    return b"B " + LETTERS[store].encode() + digits(rng.randbytes(256))
 
 
 def put(s):
@@ -37,7 +35,7 @@ def put_wrong(s):
 
 def fill(s, store):
     """Blocks until a store is full, and one or two more."""
-    while s.pod.initialised and len(s.pod.blocks[store]) < CAPACITY[store]:
+    while s.pod.initialised and s.pod.waiting[store] < CAPACITY[store]:
         s.say(put_line(s.rng, store))
         if s.rng.random() < 0.03:
             s.interlude()

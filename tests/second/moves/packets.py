@@ -150,7 +150,7 @@ def fetch(s):
     """A receive, and what may follow it."""
     rng = s.rng
     code = rng.choice((0x95, 0x96))
-    if not s.pod.blocks[code] and s.pod.blocks[0x95 + 0x96 - code] and rng.random() < 0.8:
+    if not s.pod.waiting[code] and s.pod.waiting[0x95 + 0x96 - code] and rng.random() < 0.8:
         code = 0x95 + 0x96 - code
     send(s, bytes((code, 1)))
     follow(s, code)

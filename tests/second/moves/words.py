@@ -1,6 +1,6 @@
 """Moves on the word port."""
 
-from ports.words import SIZES
+from ports.sizes import SIZES
 
 READ = 0x4000
 

@@ -2,9 +2,9 @@
 
 import struct
 
-from .blocks import NAMES, ORDINARY, PRIORITY
 from .labels import declare, hit
 from .packets import done, error
+from .sizes import NAMES, ORDINARY, PRIORITY
 
 declare(*["packet %02X: %s" % (code, what) for code in (0x90, 0x92) for what in (
     "mode over 3", "milliseconds over 999", "priority remaining over limit",
@@ -76,8 +76,8 @@ class Commands:
         """'Status, bytes 2 to 19: mode, flags 2, priority blocks waiting 2, ordinary blocks
         waiting 4, request 0, eight ids'."""
         return self.data(code, struct.pack(
-            ">BHHIB", self.mode, self.flags, len(self.blocks[PRIORITY]),
-            len(self.blocks[ORDINARY]), 0) + self.missing_ids())
+            ">BHHIB", self.mode, self.flags, self.waiting[PRIORITY],
+            self.waiting[ORDINARY], 0) + self.missing_ids())
 
     def parameter_write_packet(self, code, body):
         """'Parameter write, type 1: id, 4-byte signed'."""
@@ -93,15 +93,15 @@ class Commands:
 
     def priority_data(self, code, _):
         """'Priority data, type 2'."""
-        return self.oldest(code)
+        return self.receive(code)
 
     def ordinary_data(self, code, _):
         """'Data, type 2'."""
-        return self.oldest(code)
+        return self.receive(code)
 
-    def oldest(self, code):
+    def receive(self, code):
         """'Nothing waiting: 0x3A. Then remaining is 0: 0x3B.'"""
-        if not self.blocks[code]:
+        if not self.waiting[code]:
             hit("packet %02X: nothing waiting" % code)
             if self.remaining[code] == 0:
                 hit("packet %02X: nothing waiting and remaining 0" % code)
@@ -109,7 +109,7 @@ class Commands:
         if self.remaining[code] == 0:
             hit("packet %02X: remaining 0" % code)
             return error(code, 0x3B)
-        return self.data(code, self.blocks[code][0])
+        return self.data(code, bytes(self.memory[code][self.block_at(code, 0)]))
 
     def shutdown(self, code, _):
         """'Shutdown makes the pod not initialised and closes an open transfer, which sets

@@ -30,6 +30,7 @@ class Frames:
     def samples(self, check, samples):
         """'128 samples, eight channels by sixteen passes, pass after pass; each channel gives
         its sum divided by 16, rounded down.' Gives AN03 and AN47, one behind the other."""
+        self.rows("samples")
         if len(samples) != 128:
             hit("samples: not 128")
             if check > 31 or max(samples, default=0) > 1023:
@@ -76,6 +77,7 @@ class Frames:
 
     def pipe_byte(self, byte):
         """'Pipe bytes gather; the eighth sends all eight.' Gives the bytes sent."""
+        self.rows("pipe byte")
         if not self.initialised:
             hit("pipe byte: not initialised")
             raise Refused(6)
@@ -90,6 +92,7 @@ class Frames:
     def pipe_timeout(self):
         """'The pipe timeout sends a short packet and counts one up to 15 (it stays 15); with
         none gathered it does nothing.' Gives the bytes sent."""
+        self.rows("pipe timeout")
         if not self.initialised:
             hit("pipe timeout: not initialised")
             raise Refused(6)

@@ -19,9 +19,14 @@ def hit(label):
     COUNTS[label] += 1
 
 
-def missing():
-    """The labels that no call has reached."""
-    return [label for label, count in COUNTS.items() if count == 0]
+def clear():
+    """Count anew."""
+    COUNTS.update(dict.fromkeys(COUNTS, 0))
+
+
+def missing(start=""):
+    """The labels, of those with this start, that no call has reached."""
+    return [label for label, count in COUNTS.items() if count == 0 and label.startswith(start)]
 
 
 def table():

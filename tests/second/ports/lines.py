@@ -7,9 +7,9 @@ after one space each. Other lines print `?`.'
 import re
 import struct
 
-from .blocks import ORDINARY, PRIORITY
 from .labels import declare, hit
 from .refusal import Refused
+from .sizes import ORDINARY, PRIORITY
 
 LONGEST = 1 + 3 * 65535  # a packet may have up to 65,535 bytes
 
@@ -90,8 +90,7 @@ def call_pipe_timeout(pod, _):
 
 
 def call_power(pod, _):
-    pod.forget_transfer("power")
-    pod.power_on()
+    pod.power()
     return b"Z"
 
 

@@ -2,8 +2,8 @@
 
 from binascii import crc_hqx
 
-from .blocks import ORDINARY, PRIORITY
 from .labels import declare, hit
+from .sizes import ORDINARY, PRIORITY
 
 # code: (packet length, name)
 COMMANDS = {
@@ -65,6 +65,7 @@ class Packets:
 
     def packet(self, packet):
         """Checks 1 to 3. The answer is b"" where there is none."""
+        self.rows("packet")
         if not packet:
             hit("packet: empty")
             if self.exchange:
@@ -145,5 +146,6 @@ class Packets:
 
     def deadline(self):
         """'So does the deadline call (2 ms passed).'"""
+        self.rows("deadline")
         hit("deadline: closes an exchange" if self.exchange else "deadline: nothing open")
         self.exchange = None

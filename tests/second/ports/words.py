@@ -1,8 +1,8 @@
 """Table words (document 01, 'Table words')."""
 
 from .labels import declare, hit
+from .sizes import SIZES
 
-SIZES = {5: 64, 6: 128, 7: 64}
 KINDS = ("address", "load", "read")
 
 declare("command: even ones", "command: not initialised", "command: stop",
@@ -78,6 +78,7 @@ class Words:
         """'bit 15 parity, bit 14 direction (1 is read), bits 13 to 9 command, bits 8 to 0
         length N. The count of ones is odd.' and 'every command word closes an open
         transfer'."""
+        self.rows("command word")
         self.close_transfer("a command word")
         if bin(word).count("1") % 2 == 0:
             return self.mistake("command: even ones")
@@ -148,6 +149,7 @@ class Words:
     def data_word_in(self, word):
         """'A data word written or read with no transfer that way sets message error, closes
         any other transfer'."""
+        self.rows("data word in")
         transfer = self.transfer
         if transfer is None:
             return self.mistake("data word in: nothing open")
@@ -183,6 +185,7 @@ class Words:
     def data_word_out(self):
         """'A read of N gives the same three header words and N-3 data words'; 'Data words are
         read from the table as it is at that moment'; with no read open it 'reads as 0'."""
+        self.rows("data word out")
         read = self.transfer
         if read is None:
             self.mistake("data word out: nothing open")
@@ -203,6 +206,7 @@ class Words:
 
     def status_word(self):
         """'The status word is 2 with message error, else 0; reading it clears the error.'"""
+        self.rows("status word")
         hit("status word: error" if self.message_error else "status word: none")
         word = 2 if self.message_error else 0
         self.message_error = False

@@ -12,7 +12,7 @@ use Rattle.lines.specs.declared.Cut.{Cut}
 use Rattle.line_calls.specs.Memory.{memory}
 use Rattle.line_loop.specs.declared.Standing.{Standing}
 use Rattle.line_loop.specs.Turns.{stand, Turns, start, next, Fine}
-use Rattle.line_loop.proofs.Turning.{cut-on, turn-found, turn-more, within-after}
+use Rattle.line_loop.proofs.Turning.{cut-on, turn-found, turn-more, within-answered}
 use borrow.Author.Needs.{needs}
 use Rattle.line_loop.proofs.answering.gather.Statement.{statement}
 use Rattle.line_loop.proofs.answering.gather.Tie as tie
@@ -28,11 +28,11 @@ abbrev μ-loop : tie.MeasureT-loop
     length piece - cursor .from
 
 -- the two tests of the loop
-inside : (n k : ℕ) (at : ℕ) → (ltb n k && leb at 64752) ≡ true → n < k
-inside n k at e = ltb-true n k (and-left (ltb n k) (leb at 64752) e)
+inside : (n k : ℕ) (at : ℕ) → (ltb n k && leb at 64415) ≡ true → n < k
+inside n k at e = ltb-true n k (and-left (ltb n k) (leb at 64415) e)
 
-enough : (n k : ℕ) (at : ℕ) → (ltb n k && leb at 64752) ≡ true → at + 784 ≤ 65536
-enough n k at e = omega (arith, leb-true at 64752 (and-right (ltb n k) (leb at 64752) e))
+enough : (n k : ℕ) (at : ℕ) → (ltb n k && leb at 64415) ≡ true → at + 1121 ≤ 65536
+enough n k at e = omega (arith, leb-true at 64415 (and-right (ltb n k) (leb at 64415) e))
 
 loop-holds : tie.Need-loop-holds Inv-loop μ-loop
 loop-holds c = (start _, c .before .before .before .pre .0)
@@ -78,7 +78,7 @@ loop-again-2 c =
     let l = c .before .before .before .before .before .before .before .before .before .before .before .before .before .before .before .before .next-line in
     let a = c .answered .ensures in (
       next _ _ _ (inv .0) (turn-found _ _ _ _ (l .result) (l .ensures .0) refl (l .ensures .1 .0) (c .before .before .before .before .before .before .before .before .before .before .before .before .before .before .match .keys2) (rw (c .before .before .before .before .before .before .before .before .before .before .before .text .ensures .0) at a)),
-      record { start = l .ensures .1 .1 .1 .0; longest = l .ensures .1 .1 .1 .1; within = within-after _ _ _ (a .sizes) (inv .1 .within) },
+      record { start = l .ensures .1 .1 .1 .0; longest = l .ensures .1 .1 .1 .1; within = within-answered a (inv .1 .within) },
     )
 
 pub gather-spec : {M : Type 1} → statement M

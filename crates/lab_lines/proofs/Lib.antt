@@ -1,0 +1,4 @@
+pub mod Decimals
+pub mod Pieces
+pub mod Fives
+pub mod Inside

@@ -1,0 +1,75 @@
+-- Names: padded, compared, and looked for from a place of the table on.
+-- Assumes nothing.
+use Prim.Native.Nat.{ℕ, zero, suc, _+_, _-_, _≤_, _<_}
+use native.Mathlib.Omega.{arith}
+use native.Mathlib.Numerals.{add-one}
+use mathlib.Core.Path.{_≡_, refl, sym, ap, ap₂, _∙_}
+use mathlib.Core.Bool.{true, false, _&&_}
+use mathlib.Core.List.{List, [], _∷_, _++_}
+use lib.ListN.{length, take, drop, getD, replicate, drop-of-length-le}
+use lib.Seq.{sets, sets-eq, drop-cons, getD-append-add}
+use lib.Dec.{eqb}
+use borrow.Author.Tests.{eqb-true, eq-eqb}
+use Rattle.items.specs.Characters.{space}
+use Rattle.rows.proofs.Bool.{and-left, and-right, split, never}
+use Rattle.lab_names.specs.declared.Name.{Name}
+use Rattle.lab_names.specs.declared.Part.the-variants.{Unknown}
+use Rattle.lab_names.specs.Names.{padded, noName, stateNames, writtenNames, portNames, valueNames, otherNames, names, sameText, partIn}
+
+drop-replicate : (k n a : ℕ) → drop k (replicate n a) ≡ replicate (n - k) a
+drop-replicate zero n a = let e : n ≡ n - 0 = omega arith in ap (λ (k : ℕ). replicate k a) e
+drop-replicate (suc k) zero a = let e : 0 ≡ 0 - suc k = omega arith in ap (λ (n : ℕ). replicate n a) e
+drop-replicate (suc k) (suc n) a =
+    let e : n - k ≡ suc n - suc k = omega arith in
+    drop-replicate k n a ∙ ap (λ (m : ℕ). replicate m a) e
+
+pub pad-is : (t : List ℕ) → length t ≤ 14 → sets (replicate 14 space) 0 t ≡ padded t
+pad-is t h =
+    let n : 0 + length t ≡ length t = omega arith in
+    sets-eq t (replicate 14 space) 0 (omega arith)
+    ∙ ap (λ (k : ℕ). t ++ drop k (replicate 14 space)) n
+    ∙ ap (λ (l : List ℕ). t ++ l) (drop-replicate (length t) 14 space)
+
+-- the test on two texts says whether they are one
+pub same-is : (a b : List ℕ) → sameText a b ≡ true → a ≡ b
+unfolding sameText
+same-is [] [] h = refl
+same-is [] (d ∷ ds) h = never h refl
+same-is (c ∷ cs) [] h = never h refl
+same-is (c ∷ cs) (d ∷ ds) h =
+    ap₂ (λ (x : ℕ) (l : List ℕ). x ∷ l) (eqb-true c d (and-left (eqb c d) (sameText cs ds) h)) (same-is cs ds (and-right (eqb c d) (sameText cs ds) h))
+
+same-refl : (a : List ℕ) → sameText a a ≡ true
+unfolding sameText
+same-refl [] = refl
+same-refl (c ∷ cs) = rw (eq-eqb c c refl, same-refl cs)
+
+module _ (t : List ℕ) (ns : List Name) (i : ℕ) (h : i < length ns) where
+  next : drop i ns ≡ getD ns i noName ∷ drop (i + 1) ns
+  next = drop-cons ns i noName h ∙ ap (λ (k : ℕ). getD ns i noName ∷ drop k ns) (sym (add-one i))
+
+  -- the name at the place is the text ..
+  pub part-here : t ≡ getD ns i noName .0 → partIn t (drop i ns) ≡ getD ns i noName .1
+  unfolding partIn
+  part-here e = rw (next, sym e, same-refl t)
+
+  -- .. or the search goes on
+  pub part-past : (t ≡ getD ns i noName .0 → ⊥) → partIn t (drop i ns) ≡ partIn t (drop (i + 1) ns)
+  unfolding partIn
+  part-past n =
+      split (sameText t (getD ns i noName .0)) (λ e. absurd (n (same-is t (getD ns i noName .0) e))) (λ e. rw (next, e))
+
+-- past the end there is none
+pub part-end : (t : List ℕ) (ns : List Name) (i : ℕ) → length ns ≤ i → partIn t (drop i ns) ≡ Unknown
+unfolding partIn
+part-end t ns i h = rw (drop-of-length-le ns {i = i} h)
+
+pub names-length : length names ≡ 53
+unfolding names stateNames writtenNames portNames valueNames otherNames
+names-length = refl
+
+-- a name at a place behind a run of names
+pub behind-run : (xs ys : List Name) (i n : ℕ) → length xs ≡ n → n ≤ i → getD (xs ++ ys) i noName ≡ getD ys (i - n) noName
+behind-run xs ys i n e h =
+    let k : i ≡ length xs + (i - n) = omega arith in
+    ap (λ (j : ℕ). getD (xs ++ ys) j noName) k ∙ getD-append-add xs ys (i - n) noName

@@ -1,0 +1,8 @@
+// The line `V`: the state and the memory, shown.
+mod checks;
+mod digits;
+mod parts;
+mod runs;
+mod showing;
+
+pub use showing::show;
