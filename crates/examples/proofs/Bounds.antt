@@ -23,11 +23,11 @@ unfolding startParams
 all-starts = refl
 
 pub all-values : AsExpected valuesBounded
-unfolding ran isId inRows soundParams startParams writeAllowed storeSized soundRing soundPlaces soundTransfer soundWords startWords listed startTable tablesSized emptyInput freshInput soundInput freshPipe soundPipe boundedOf packetRead packetHeard spokenBytes answered powerCall packetCall deadlineCall samplesCall freshFields freshPod restful soundPod fieldsBounded step
+unfolding ran isId inRows soundParams startParams writeAllowed soundRing soundPlaces soundTransfer soundWords startWords tablesSized emptyInput freshInput soundInput freshPipe soundPipe powerCall deadlineCall freshFields freshPod restful soundPod fieldsBounded step
 all-values = refl
 
 pub all-rest : AsExpected bounds
-unfolding ran isId inRows soundParams startParams writeAllowed storeSized soundRing soundPlaces soundTransfer soundWords startWords listed startTable tablesSized emptyInput freshInput soundInput freshPipe soundPipe boundedOf packetRead packetHeard spokenBytes answered powerCall packetCall deadlineCall samplesCall freshFields freshPod restful soundPod fieldsBounded step
+unfolding ran inRows soundParams startParams storeSized soundRing soundPlaces soundTransfer soundWords startWords listed startTable tablesSized emptyInput freshInput soundInput freshPipe soundPipe boundedOf packetRead packetHeard spokenBytes answered powerCall packetCall deadlineCall samplesCall freshFields freshPod restful soundPod fieldsBounded step
 all-rest = refl
 
 pub all-bounds : Bounds

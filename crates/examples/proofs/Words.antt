@@ -5,16 +5,16 @@ use mathlib.Core.List.{flatten}
 use lib.Count.{ones}
 use Rattle.rows.specs.Rows.{ran}
 use Rattle.crc.specs.Crc.{poly, leaving, bitIn, bits, bitsIn, crcFrom, crcOf}
-use Rattle.packets.specs.Answers.{withCrc, answerOf, errorAnswer, fieldBytes, bodyOf, commandBytes}
+use Rattle.packets.specs.Answers.{withCrc, answerOf, fieldBytes, bodyOf, commandBytes}
 use Rattle.packets.specs.Commands.{fieldsOf, fieldsIn, fieldsBounded, findIn, listedIn, codeRow, isCode, commandPlace, commandRow}
 use Rattle.numbers.specs.Layout.{laidOut, numbersAt}
 use Rattle.numbers.specs.Numbers.{highFirst, numberOf, numberAt}
 use Rattle.packets.specs.Reading.{crcRight, acknowledges, packetRead}
-use Rattle.params.specs.Rules.{isId, inRows, soundParams, startParams}
+use Rattle.params.specs.Rules.{inRows, soundParams, startParams}
 use Rattle.blocks.specs.Stores.{storeSized, soundRing}
 use Rattle.tables.specs.Bounds.{soundPlaces, soundTransfer, soundWords}
 use Rattle.orders.specs.Command.{oddOnes, partsOf, orderOf, orderHeard}
-use Rattle.tables.specs.Port.{startWords, closeOf, readOpenedAt, readOpened, restarted, orderObeyed, tablesAfter, commandOf, wrongWay, loadRight, storedIn, loadJudged, loadOf, wordTaken, dataInOf, readWord, readNext, wordGiven, dataOutOf, statusOf}
+use Rattle.tables.specs.Port.{startWords, closeOf, readOpenedAt, readOpened, orderObeyed, tablesAfter, commandOf, wrongWay, loadRight, storedIn, loadJudged, loadOf, wordTaken, dataInOf, readWord, readNext, wordGiven, dataOutOf, statusOf}
 use Rattle.tables.specs.Tables.{listed, startTable, tablesSized}
 use Rattle.pipe.specs.Input.{emptyInput, freshInput, soundInput}
 use Rattle.pipe.specs.Pipe.{freshPipe, soundPipe}
@@ -27,5 +27,5 @@ use Rattle.examples.specs.Shown.{justInitialised}
 use Rattle.examples.specs.Words.{WordsComputed}
 
 pub all-words : WordsComputed
-unfolding flatten ones ran poly leaving bitIn bits bitsIn crcFrom crcOf withCrc answerOf errorAnswer fieldBytes bodyOf commandBytes laidOut numbersAt fieldsOf fieldsIn fieldsBounded findIn listedIn codeRow isCode commandPlace commandRow highFirst numberOf numberAt crcRight acknowledges packetRead isId inRows soundParams startParams storeSized soundRing soundPlaces soundTransfer soundWords oddOnes partsOf orderOf orderHeard startWords closeOf readOpenedAt readOpened restarted orderObeyed tablesAfter commandOf wrongWay loadRight storedIn loadJudged loadOf wordTaken dataInOf readWord readNext wordGiven dataOutOf statusOf listed startTable tablesSized emptyInput freshInput soundInput freshPipe soundPipe powerCall packetHeard meantBody replyBytes spokenBytes answered packetCall wordCall wordOf wordLent checksOf initialisedPod doneBy obeyOf justInitialised freshFields freshPod restful soundPod step final tells
+unfolding flatten ones ran poly leaving bitIn bits bitsIn crcFrom crcOf withCrc answerOf fieldBytes bodyOf commandBytes laidOut numbersAt fieldsOf fieldsIn fieldsBounded findIn listedIn codeRow isCode commandPlace commandRow highFirst numberOf numberAt crcRight acknowledges packetRead inRows soundParams startParams storeSized soundRing soundPlaces soundTransfer soundWords oddOnes partsOf orderOf orderHeard startWords closeOf readOpenedAt readOpened orderObeyed tablesAfter commandOf wrongWay loadRight storedIn loadJudged loadOf wordTaken dataInOf readWord readNext wordGiven dataOutOf statusOf listed startTable tablesSized emptyInput freshInput soundInput freshPipe soundPipe powerCall packetHeard meantBody replyBytes spokenBytes answered packetCall wordCall wordOf wordLent checksOf initialisedPod doneBy obeyOf justInitialised freshFields freshPod restful soundPod step final tells
 all-words x y z = refl

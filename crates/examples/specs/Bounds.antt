@@ -8,7 +8,6 @@ use lib.IntN.{ℤ, pos}
 use lib.ListN.{replicate}
 use Rattle.blocks.specs.declared.Store.{Store}
 use Rattle.blocks.specs.declared.Store.the-variants.{Priority, Ordinary}
-use Rattle.packets.specs.declared.Fields.{Fields}
 use Rattle.params.specs.Rows.{minus}
 use Rattle.params.specs.Rules.{startParams, stored, writeAllowed}
 use Rattle.orders.specs.declared.Table.the-variants.{Five, Six, Seven}

@@ -9,8 +9,8 @@ use Rattle.blocks.specs.declared.Store.the-variants.{Priority}
 use Rattle.packets.specs.declared.Fields.{Fields}
 use Rattle.rules.specs.State.{freshPod}
 use Rattle.rules.specs.Refusals.{done}
-use Rattle.rules.specs.World.{World, world, Call, power, packet, told, next, tells}
-use Rattle.examples.specs.Shown.{justInitialised, Line, line, AsExpected}
+use Rattle.rules.specs.World.{World, world, power, packet, told, next, tells}
+use Rattle.examples.specs.Shown.{justInitialised}
 use Rattle.examples.specs.Computed.{Turn, asks, brings, dusty}
 
 -- a world tells what each turn expects

@@ -1,7 +1,7 @@
 -- The table words, by computation: which command words there are, where a load or a read ends, and that three tables stand apart.
 -- Assumes nothing.
 use Prim.Native.Nat.{ℕ, _*_}
-use mathlib.Core.List.{List, [], _∷_, _++_, map}
+use mathlib.Core.List.{List, [], _∷_, _++_}
 use lib.ListN.{replicate}
 use Rattle.tables.specs.Tables.{listed}
 use Rattle.rules.specs.World.{Call, final}
