@@ -112,7 +112,7 @@ def write_value(s, id):
               rng.randint(least, most), rng.randint(-2 ** 31, 2 ** 31 - 1), -2 ** 31, 2 ** 31 - 1]
     if id in (1, 2):
         other = s.pod.values[3 - id]
-        values += [other - 1, other, other + 1] * 3
+        values += [max(other - 1, -2 ** 31), other, min(other + 1, 2 ** 31 - 1)] * 3
     return rng.choice(values)
 
 
