@@ -72,5 +72,5 @@ class Exchanges:
         if row[2] not in meant or meant[row[2]] != pod.exchange:
             row.fault("then the second model has the exchange %s open" % pod.exchange)
         left = VALUES["priority remaining"] - pod.remaining[0x95]
-        if row[3] != ("dropped, and remaining falls by 1" if left else "kept") or left + len(pod.blocks[0x95]) != 2:
-            row.fault("the second model has %d blocks and the remaining lower by %d" % (len(pod.blocks[0x95]), left))
+        if row[3] != ("dropped, and remaining falls by 1" if left else "kept") or left + pod.waiting[0x95] != 2:
+            row.fault("the second model has %d blocks and the remaining lower by %d" % (pod.waiting[0x95], left))

@@ -6,6 +6,7 @@ import re
 import model
 from ports.blocks import CAPACITY
 from ports.lines import FORMS
+from ports.packets import sealed
 from ports.words import SIZES, tables_at_start
 
 from .desk import checks
@@ -23,10 +24,13 @@ THINGS = {"room": "room", "priority": "stores", "ordinary": "stores", "five": "t
           "store": "that store", "block": "a block", "load": "the words of a load", "set": "a sample set"}
 OTHER = {**VALUES, "mode": 3, "flags": 9, "time": (5, 6), "priority limit": 7, "priority remaining": 6,
          "memory limit": 8, "memory remaining": 5, "poll": 11}
-PARTS = {"limits": "limit", "remainings": "remaining", "open exchange": "exchange", "waiting blocks": "blocks",
+PARTS = {"limits": "limit", "remainings": "remaining", "open exchange": "exchange", "waiting blocks": "waiting",
+         "place of the oldest block": "oldest",
          "parameters": "values", "marks of written parameters": "written", "table words": "tables", "read places": "places",
          "given address": "address", "open transfer": "transfer", "message error": "message_error",
          "gathered bytes": "gathered", "input timeouts": "timeouts"}
+# what the model keeps beside the state: the memory that is lent, and at which sizes
+BESIDE = {"memory", "sizes"}
 
 
 def borrowed(function):
@@ -207,8 +211,8 @@ class State:
         """What power on, Initialise, Update and Shutdown leave of every part of the second model's state."""
         table = self.take("Part", "Start", "Power on", "Initialise", "Update", "Shutdown")
         parts = [PARTS.get(row[0], row[0]) for row in table]
-        if sorted(parts) != sorted(vars(model.Pod())):
-            odd = set(parts) ^ set(vars(model.Pod()))
+        odd = set(parts) ^ (set(vars(model.Pod())) - BESIDE)
+        if odd:
             table.rows[0].fault("the parts are not those of the second model: %s" % ", ".join(sorted(odd)))
         fresh = vars(model.Pod())
         packet = {"mode": 3, "flags": 9, "seconds": 5, "milliseconds": 6, "poll": 11,
@@ -216,7 +220,7 @@ class State:
         events = [b"Z"] + [asked(self.packets.packet(code, OTHER)).encode() for code in (0x90, 0x92, 0x9F)]
         for row, part in zip(table, parts):
             starts = {"no": [False], "0": [0, {0x95: 0, 0x96: 0}, {5: 0, 6: 0, 7: 0}], "1,000": [1000], "their starts": [fresh[part]]}
-            starts["none"] = [None, set(), b""] + [fresh[part]] * (part == "blocks" and not any(fresh[part].values()))
+            starts["none"] = [None, set(), b""] + [fresh[part]] * (part == "waiting" and not any(fresh[part].values()))
             if fresh[part] not in starts[row[1]]:
                 row.fault("it starts otherwise")
             for at, line in enumerate(events, 2):
@@ -232,7 +236,8 @@ class State:
     def used(self, error, transfer):
         """A model's pod with nothing at its start."""
         pod = model.Pod()
-        lines = [asked(self.packets.packet(0x90, VALUES)), "B p" + BLOCK, "B o" + BLOCK, "I 55", "T", "I 56",
+        dropped = [line for code in (0x95, 0x96) for line in (asked(self.packets.packet(code)), asked(sealed(bytes([code, 0x01, 0x7E]))))]
+        lines = [asked(self.packets.packet(0x90, VALUES)), *["B p" + BLOCK] * 2, *["B o" + BLOCK] * 2, *dropped, "I 55", "T", "I 56",
                  asked(self.packets.packet(0x93, {"id": 3, "value": 500})),
                  "C 0A04", "W 0005", "W 0000", "W 0001", "W 7777", "C CA04", "R", "R", "R", "R", "C 8201", "W 0009"]
         lines += ["C 0C04"] if transfer else ["C 0000"] if error else []
