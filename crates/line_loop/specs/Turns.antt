@@ -2,8 +2,9 @@
 -- Assumes nothing.
 use Prim.Native.Nat.{ℕ, suc, _≤_}
 use mathlib.Core.Path.{_≡_}
-use mathlib.Core.Bool.{true, false}
+use mathlib.Core.Bool.{true, false, _&&_}
 use mathlib.Core.List.{List}
+use lib.Dec.{ltb, leb}
 use lib.ListN.{length}
 use Rattle.rules.specs.declared.Pod.{Pod}
 use Rattle.lines.specs.declared.Cursor.{Cursor}
@@ -97,6 +98,10 @@ pub record Fine (s : Standing) (have : ℕ) : Type 0 where
   pub start : s .cursor .from ≤ have
   pub longest : s .cursor .held ≤ 196607
   pub within : Within (s .between .sizes)
+
+-- no line is left in the piece, or the output has no room for the longest one
+abbrev pub Spent : Standing → ℕ → Type 0
+Spent s have = (ltb (s .cursor .from) have && leb (s .between .at) 64415) ≡ false
 
 -- the loop between two pieces: nothing is gathered
 pub record Ready (d : Desk) : Type 0 where

@@ -13,7 +13,7 @@ use lines::next_line;
 ghost use Prim.Native.Nat.{_+_, _≤_};
 ghost use lib.ListN.{length};
 ghost use Rattle.line_calls.specs.Memory.{memory};
-ghost use Rattle.line_loop.specs.Turns.{Within, CallAnswered, TextAnswered, stand, Turns, Fine};
+ghost use Rattle.line_loop.specs.Turns.{Within, CallAnswered, TextAnswered, stand, Turns, Fine, Spent};
 
 // The longest line of output has 1,121 characters: with fewer left, what is gathered is written first.
 const ENOUGH: usize = 64415;
@@ -151,6 +151,7 @@ pub fn gather(
     requires { ⌜ length (now piece) ≤ 65536 ⌝ }
     ensures { λ r. ⌜ Turns program (now (piece .entry)) (stand standing (now (line .entry)) (memory (now (room .entry)) (now (priority .entry)) (now (ordinary .entry)) (now (five .entry)) (now (six .entry)) (now (seven .entry)) (now (load .entry))) (now (out .entry))) (stand r (now (line .exit)) (memory (now (room .exit)) (now (priority .exit)) (now (ordinary .exit)) (now (five .exit)) (now (six .exit)) (now (seven .exit)) (now (load .exit))) (now (out .exit))) ⌝ }
     ensures { λ r. ⌜ Fine r (length (now (piece .entry))) ⌝ }
+    ensures { λ r. ⌜ Spent r (length (now (piece .entry))) ⌝ }
 {
     let mut cursor = standing.cursor;
     let mut between = standing.between;

@@ -14,6 +14,7 @@ use rules::Pod;
 ghost use mathlib.Core.Path.{_≡_};
 ghost use Prim.Native.Nat.{_≤_};
 ghost use lib.ListN.{length};
+ghost use Rattle.rules.specs.State.{freshPod};
 ghost use Rattle.line_loop.specs.Turns.{Within, Fine, Ready};
 
 // Writes what is gathered.
@@ -42,6 +43,7 @@ fn emptied(cursor: Cursor, between: Between, have: usize, left: u64) -> Desk
 // The pod, fresh from power.
 fn fresh(five: &mut [u16], six: &mut [u16], seven: &mut [u16]) -> Pod
     requires { ⌜ (64 ≤ length (now five)) × (128 ≤ length (now six)) × (64 ≤ length (now seven)) ⌝ }
+    ensures { λ r. ⌜ r ≡ freshPod ⌝ }
 {
     let called = pod::power_on(
         commands::fresh_pod(),

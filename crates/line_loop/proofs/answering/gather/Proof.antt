@@ -85,4 +85,4 @@ pub gather-spec : {M : Type 1} → statement M
 gather-spec =
     tie.close
     (tie.spec Inv-loop μ-loop loop-holds next-line-requires (λ c. search needs) loop-less loop-again text-requires answered-requires loop-less-2
-    loop-again-2 (λ c. c .before .before .before .loop .inv))
+    loop-again-2 (λ c. let inv = c .before .before .before .loop .inv in (inv .0, (inv .1, c .if1 .left))))

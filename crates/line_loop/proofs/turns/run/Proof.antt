@@ -30,7 +30,7 @@ turn-requires c κs =
     let f = c .before .before .before .before .before .before .before .before .before .before .before .before .before .before .front in
     let g = c .before .before .gather in
     let n : length (now (f .result)) ≡ i .desk .have = rw (f .ensures .0, length-take) (omega (arith, i .inv .piece, c .before .before .before .before .before .before .before .before .before .before .before .before .before .before .before)) in
-    (subst (λ (k : ℕ). Fine (g .result) k) n (g .ensures .1), i .inv .piece)
+    (subst (λ (k : ℕ). Fine (g .result) k) n (g .ensures .1 .0), i .inv .piece)
 
 text-requires : tie.Need-text-requires Inv-loop μ-loop
 text-requires c κs = (c .before .before .before .before .last .ensures .1 _, (omega arith, omega arith))
