@@ -8,7 +8,8 @@ import re
 import sys
 
 ROOT = pathlib.Path(__file__).resolve().parent.parent
-PROOFS = {'Shown': 'all-shown', 'Computed': 'all-computed', 'Edges': 'all-edges', 'Conversation': 'conversed', 'Bounds': 'all-bounds'}
+PROOFS = {'Shown': 'all-shown', 'Computed': 'all-computed', 'Edges': 'all-edges', 'Conversation': 'conversed', 'Bounds': 'all-bounds',
+          'WordsComputed': 'all-words', 'Packets': 'all-packets'}
 HEAD = re.compile(r'^\s*(?:pub )?fn (\w+)', re.M)
 failures = []
 
