@@ -10,6 +10,8 @@ import sys
 ROOT = pathlib.Path(__file__).resolve().parent.parent
 PROOFS = {'Shown': 'all-shown', 'Computed': 'all-computed', 'Edges': 'all-edges', 'Conversation': 'conversed', 'Bounds': 'all-bounds',
           'WordsComputed': 'all-words', 'Packets': 'all-packets'}
+# crates that hand on what others promise, or promise no more than to end: docs/PROMISES.md, 'Looser promises'
+BESIDE = ('pod', 'line_loop', 'vectors', 'repeats')
 HEAD = re.compile(r'^\s*(?:pub )?fn (\w+)', re.M)
 failures = []
 
@@ -63,6 +65,28 @@ def functions():
     return count
 
 
+def exported(crate):
+    """The public functions of a crate: those of its lib.rt, and what it hands on by name."""
+    text = (ROOT / 'crates' / crate / 'src' / 'lib.rt').read_text()
+    named = re.findall(r'^\s*pub fn (\w+)', text, re.M)
+    return named + [n for n in re.findall(r'^pub use \w+::(\w+);', text, re.M) if n[0].islower()]
+
+
+def publics():
+    """Each public function of a product crate is refused under an edit, its own lines wrong or those of one that it calls."""
+    count = 0
+    for crate in re.findall(r'^(\w+):', (ROOT / 'crates.txt').read_text(), re.M):
+        folder = ROOT / 'crates' / crate
+        if crate.startswith('show_') or crate in BESIDE or not (folder / 'src' / 'lib.rt').exists():
+            continue
+        logs = '\n'.join(log_of(crate, edit.stem) for edit in sorted(folder.glob('must-fail/*.edit')))
+        for name in exported(crate):
+            count += 1
+            if not re.search(rf'^fn \S*::{name}: (?:not proved|no proof)', logs, re.M):
+                fail(f'{crate}: no edit is refused at {name}')
+    return count
+
+
 def proof_of(statement):
     return PROOFS.get(statement) or re.sub(r'(?<=.)([A-Z])', r'-\1', statement).lower()
 
@@ -99,10 +123,10 @@ def statements():
 
 
 def main():
-    lines, said = functions(), statements()
+    lines, open_to_all, said = functions(), publics(), statements()
     if failures:
         return 1
-    print(f'edits: ok, {lines} wrong lines refused at their functions, {said} statements at their proofs')
+    print(f'edits: ok, {lines} wrong lines refused at their functions, {open_to_all} public functions, {said} statements at their proofs')
     return 0
 
 
