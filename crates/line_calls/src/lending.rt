@@ -1,6 +1,6 @@
 // What is lent to a line's call, at its sizes.
-use crate::Sizes;
 use crate::LineSaid;
+use crate::Sizes;
 use crate::calling::reply;
 use lines::Line;
 use rules::Pod;

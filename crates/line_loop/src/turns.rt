@@ -1,7 +1,7 @@
 // The loop: lines from standard input, answers to standard output, both in large pieces.
 use crate::Between;
-use crate::Reader;
 use crate::Program;
+use crate::Reader;
 use crate::Standing;
 use crate::answering::answered;
 use crate::answering::gather;
