@@ -11,10 +11,10 @@ use Rattle.rows.specs.Rows.{Said, refused, gave}
 use Rattle.rows.proofs.Bool.{split}
 use Rattle.hex.specs.Digits.{digitOf, byteDigits, wordDigits}
 use Rattle.items.specs.Text.{spell}
-use Rattle.items.specs.Printed.{answered, bytesLine, wordLine, bareLine, decimal, refusedLine}
+use Rattle.items.specs.Printed.{answerLine, bytesLine, wordLine, bareLine, decimal, refusedLine}
 use Rattle.lines.specs.Cut.{before}
-use Rattle.lines.specs.Asked.{Asked, packet, deadline, put, command, dataIn, dataOut, status, samples, pipeByte, pipeTimeout, power, other}
-use Rattle.rules.specs.Refusals.{Given, done, bytes, reads}
+use Rattle.lines.specs.Asked.{Asked, packet, deadline, put, command, dataIn, dataOut, status, samples, askByte, askTimeout, power, other}
+use Rattle.rules.specs.Refusals.{Giving, done, bytes, reads}
 use Rattle.rules.specs.World.{Told}
 use Rattle.answers.specs.Answers.{Form, formOf, saidLine, lineText}
 
@@ -44,8 +44,8 @@ unfolding spell
 spell-inked [] = tt
 spell-inked (b ∷ bs) = (omega arith, both (byteDigits b) (spell bs) (byte-inked b) (spell-inked bs))
 
-answered-inked : (bs : List ℕ) → Inked (answered bs)
-unfolding answered
+answered-inked : (bs : List ℕ) → Inked (answerLine bs)
+unfolding answerLine
 answered-inked [] = (omega arith, (omega arith, tt))
 answered-inked (b ∷ bs) = spell-inked (b ∷ bs)
 
@@ -57,7 +57,7 @@ decimal-inked n = split (ltb n 10) (λ e. rw e (omega arith, tt)) (λ e. rw e (o
 module _ (c : ℕ) (h : 10 < c) where
   bytes-one : (bs : List ℕ) → suc (before (bytesLine c bs)) ≡ length (bytesLine c bs)
   unfolding bytesLine
-  bytes-one bs = ended (c ∷ answered bs) (h, answered-inked bs)
+  bytes-one bs = ended (c ∷ answerLine bs) (h, answered-inked bs)
 
   word-one : (w : ℕ) → suc (before (wordLine c w)) ≡ length (wordLine c w)
   unfolding wordLine
@@ -71,7 +71,7 @@ module _ (c : ℕ) (h : 10 < c) where
   unfolding refusedLine
   refused-one n = ended (c ∷ 32 ∷ 33 ∷ decimal n) (h, (omega arith, (omega arith, decimal-inked n)))
 
-said-one : (f : Form) (s : Said Given) (bs : List ℕ) → 10 < f .letter → suc (before (saidLine f s bs)) ≡ length (saidLine f s bs)
+said-one : (f : Form) (s : Said Giving) (bs : List ℕ) → 10 < f .letter → suc (before (saidLine f s bs)) ≡ length (saidLine f s bs)
 unfolding saidLine
 said-one f (refused n) bs h = refused-one (f .letter) h n
 said-one f (gave done) bs h = split (f .lists) (λ e. rw e (bytes-one (f .letter) h bs)) (λ e. rw e (bare-one (f .letter) h))
@@ -88,8 +88,8 @@ letter-inked (dataIn w) = omega arith
 letter-inked dataOut = omega arith
 letter-inked status = omega arith
 letter-inked (samples k ws) = omega arith
-letter-inked (pipeByte b) = omega arith
-letter-inked pipeTimeout = omega arith
+letter-inked (askByte b) = omega arith
+letter-inked askTimeout = omega arith
 letter-inked power = omega arith
 letter-inked other = omega arith
 

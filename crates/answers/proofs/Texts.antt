@@ -11,7 +11,7 @@ use Rattle.rows.specs.Rows.{Said, refused, gave}
 use Rattle.rules.specs.declared.Refusal.{Refusal}
 use Rattle.rules.specs.declared.Answer.{Answer}
 use Rattle.rules.specs.declared.Answer.the-variants.{Refused, Done, Length, Word}
-use Rattle.rules.specs.Refusals.{Given, refusalNumber, answerSaid}
+use Rattle.rules.specs.Refusals.{Giving, refusalNumber, answerSaid}
 use Rattle.rules.specs.World.{framesIn}
 use Rattle.frames.specs.declared.Frames.{Frames}
 use Rattle.items.proofs.Lists.{sets-join}
@@ -58,7 +58,7 @@ both-eight l a b k h j =
     ∙ append-nil (a ++ b)
 
 -- a refusal is printed whatever the frames
-pub frames-said : (f : Form) (s : Said Given) (g : Frames) → saidLine f s (g .an03 ++ g .an47) ≡ saidLine f s (framesIn s g)
+pub frames-said : (f : Form) (s : Said Giving) (g : Frames) → saidLine f s (g .an03 ++ g .an47) ≡ saidLine f s (framesIn s g)
 unfolding saidLine
 frames-said f (refused n) g = refl
 frames-said f (gave x) g = refl

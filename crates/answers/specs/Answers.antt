@@ -5,12 +5,12 @@ use mathlib.Core.Bool.{Bool, true, false, cond}
 use mathlib.Core.List.{List}
 use lib.ListN.{take}
 use Rattle.rows.specs.Rows.{Said, refused, gave}
-use Rattle.rules.specs.Refusals.{Given, done, bytes, reads}
+use Rattle.rules.specs.Refusals.{Giving, done, bytes, reads}
 use Rattle.rules.specs.World.{Told}
 use Rattle.items.specs.Characters.{question}
 use Rattle.items.specs.Printed.{bytesLine, wordLine, bareLine, refusedLine}
 use Rattle.lines.specs.Letters.{letterP, letterD, letterB, letterC, letterW, letterR, letterS, letterA, letterI, letterT, letterZ}
-use Rattle.lines.specs.Asked.{Asked, packet, deadline, put, command, dataIn, dataOut, status, samples, pipeByte, pipeTimeout, power, other}
+use Rattle.lines.specs.Asked.{Asked, packet, deadline, put, command, dataIn, dataOut, status, samples, askByte, askTimeout, power, other}
 
 -- how a line is answered: behind which letter, and whether a call that is done lists the bytes that it gives
 pub record Form : Type 0 where
@@ -36,14 +36,14 @@ formOf (dataIn w) = plain letterW
 formOf dataOut = plain letterR
 formOf status = plain letterS
 formOf (samples k ws) = listing letterA
-formOf (pipeByte b) = listing letterI
-formOf pipeTimeout = listing letterT
+formOf (askByte b) = listing letterI
+formOf askTimeout = listing letterT
 formOf power = plain letterZ
 formOf other = plain question
 
 -- "a refused call prints the letter, a space, `!` and the number"; "the answer in the same form": the first bytes of the room; a word;
 -- the bytes that are listed, `-` for none; or the letter alone
-unfoldable pub saidLine : Form → Said Given → List ℕ → List ℕ
+unfoldable pub saidLine : Form → Said Giving → List ℕ → List ℕ
 saidLine f (refused n) bs = refusedLine (f .letter) n
 saidLine f (gave done) bs = cond (f .lists) (bytesLine (f .letter) bs) (bareLine (f .letter))
 saidLine f (gave (bytes n)) bs = bytesLine (f .letter) (take n bs)

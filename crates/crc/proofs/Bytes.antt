@@ -9,17 +9,17 @@ use lib.ListN.{length, getD, take, drop, take-append-drop}
 use lib.Seq.{drop-cons, drop-drop}
 use lib.Pow.{pow-add, shl-exact, shl-lt, shr-shr, field, mod-mod-pow, high, low}
 use Rattle.crc.specs.Crc.{crcFrom}
-use Rattle.crc.specs.Bytes.{bytesOf}
+use Rattle.crc.specs.Bytes.{crcBytes}
 use Rattle.crc.proofs.Register.{byteIn-xor, from-none, from-one, from-append}
 
 -- a number below 256 is its one byte
-pub one-byte : (b : ℕ) → b < 256 → bytesOf 1 b ≡ b ∷ []
-unfolding bytesOf
+pub one-byte : (b : ℕ) → b < 256 → crcBytes 1 b ≡ b ∷ []
+unfolding crcBytes
 one-byte b h = let e : b % 256 ≡ b = omega arith in rw e
 
 -- the bytes above the lowest n, and then those
-pub cut : (n m w : ℕ) → bytesOf (n + m) w ≡ bytesOf m (w / 2 ^ (n * 8)) ++ bytesOf n (w % 2 ^ (n * 8))
-unfolding bytesOf
+pub cut : (n m w : ℕ) → crcBytes (n + m) w ≡ crcBytes m (w / 2 ^ (n * 8)) ++ crcBytes n (w % 2 ^ (n * 8))
+unfolding crcBytes
 cut zero m w = let whole : w / 1 ≡ w = omega arith in rw (zero-add, whole, append-nil)
 cut (suc n) m w =
     let up : suc n * 8 ≡ n * 8 + 8 = omega arith in
@@ -35,22 +35,22 @@ beside k u b h l e =
     (sym (add-mul (u * 256) b (2 ^ k)))
 
 -- and then the last of its bytes
-pub last-byte : (n u b : ℕ) → b < 256 → bytesOf (suc n) (u * 256 + b) ≡ bytesOf n u ++ (b ∷ [])
-unfolding bytesOf
+pub last-byte : (n u b : ℕ) → b < 256 → crcBytes (suc n) (u * 256 + b) ≡ crcBytes n u ++ (b ∷ [])
+unfolding crcBytes
 last-byte n u b h = rw (high u 8 h, low u 8 h)
 
 -- into the register: the upper bytes first
 pub in-two : (n m c w : ℕ)
-    → crcFrom (crcFrom c (bytesOf m (w / 2 ^ (n * 8)))) (bytesOf n (w % 2 ^ (n * 8))) ≡ crcFrom c (bytesOf (n + m) w)
-in-two n m c w = sym (ap (crcFrom c) (cut n m w) ∙ from-append c (bytesOf m (w / 2 ^ (n * 8))) (bytesOf n (w % 2 ^ (n * 8))))
+    → crcFrom (crcFrom c (crcBytes m (w / 2 ^ (n * 8)))) (crcBytes n (w % 2 ^ (n * 8))) ≡ crcFrom c (crcBytes (n + m) w)
+in-two n m c w = sym (ap (crcFrom c) (cut n m w) ∙ from-append c (crcBytes m (w / 2 ^ (n * 8))) (crcBytes n (w % 2 ^ (n * 8))))
 
 -- the sums of two registers and of two numbers give the sum of what they give
-pub both-xor : (n a b v w : ℕ) → crcFrom (bitXor a b) (bytesOf n (bitXor v w)) ≡ bitXor (crcFrom a (bytesOf n v)) (crcFrom b (bytesOf n w))
-unfolding bytesOf
+pub both-xor : (n a b v w : ℕ) → crcFrom (bitXor a b) (crcBytes n (bitXor v w)) ≡ bitXor (crcFrom a (crcBytes n v)) (crcFrom b (crcBytes n w))
+unfolding crcBytes
 both-xor zero a b v w = rw (from-none, from-none, from-none)
 both-xor (suc n) a b v w =
     rw (xor-shr v w 8, xor-mod v w 8, from-append, from-append a, from-append b, from-one, from-one, from-one, both-xor n a b (v / 256) (w / 256))
-    (byteIn-xor (crcFrom a (bytesOf n (v / 256))) (crcFrom b (bytesOf n (w / 256))) (v % 256) (w % 256))
+    (byteIn-xor (crcFrom a (crcBytes n (v / 256))) (crcFrom b (crcBytes n (w / 256))) (v % 256) (w % 256))
 
 -- ---- the bytes of a list
 

@@ -6,7 +6,7 @@ use native.Mathlib.Omega.{arith}
 use lib.Bits.{bitXor, xor-zero-r, xor-lt, xor-shr, xor-mod}
 use lib.Pow.{high, low}
 use Rattle.crc.specs.Crc.{poly, leaving, bitIn, bits, bitsIn, crcFrom}
-use Rattle.crc.specs.Bytes.{bytesOf}
+use Rattle.crc.specs.Bytes.{crcBytes}
 use Rattle.crc.proofs.Linear.{Linear, Shifts, shifts, linear, shifts-fit, basis}
 use Rattle.crc.proofs.Linear.Shifts.{plain, down, low as digits, up, sum}
 use Rattle.crc.proofs.Register.{byteIn, byteIn-xor, from-one}
@@ -40,7 +40,7 @@ by-shifts c b h l = rw (high c 8 l, low c 8 l) at (both-at (c * 2 ^ 8 + b) (omeg
 
 -- a number of 64 bits stands for the register that its eight bytes leave in an empty one
 unfoldable pub fold : ℕ → ℕ
-fold s = crcFrom 0 (bytesOf 8 s)
+fold s = crcFrom 0 (crcBytes 8 s)
 
 fold-lin : Linear fold
 unfolding fold
@@ -62,37 +62,37 @@ raise n = shifts (16 * n) (rest n (quotient n))
 raise-lin : (n : ℕ) → Linear (raise n)
 raise-lin n = linear (16 * n) (rest n (quotient n))
 
-zeros-lin : (n : ℕ) → Linear (λ c. crcFrom c (bytesOf n 0))
+zeros-lin : (n : ℕ) → Linear (λ c. crcFrom c (crcBytes n 0))
 zeros-lin n a b = both-xor n a b 0 0
 
 -- two zero bytes more, by the shifts of `two`
-raised : (s : ℕ) → s < 2 ^ 16 → raise 1 s ≡ crcFrom s (bytesOf 2 0)
-unfolding bytesOf crcFrom bitsIn bits bitIn leaving poly
-raised = basis (raise 1) (λ s. crcFrom s (bytesOf 2 0)) (raise-lin 1) (zeros-lin 2) 16 tt
+raised : (s : ℕ) → s < 2 ^ 16 → raise 1 s ≡ crcFrom s (crcBytes 2 0)
+unfolding crcBytes crcFrom bitsIn bits bitIn leaving poly
+raised = basis (raise 1) (λ s. crcFrom s (crcBytes 2 0)) (raise-lin 1) (zeros-lin 2) 16 tt
 
 -- eight zero bytes more, by the shifts of `crc_of`
-lifted : (s : ℕ) → s < 2 ^ 64 → fold (raise 4 s) ≡ crcFrom (fold s) (bytesOf 8 0)
-unfolding fold bytesOf crcFrom bitsIn bits bitIn leaving poly
+lifted : (s : ℕ) → s < 2 ^ 64 → fold (raise 4 s) ≡ crcFrom (fold s) (crcBytes 8 0)
+unfolding fold crcBytes crcFrom bitsIn bits bitIn leaving poly
 lifted =
-    basis (λ s. fold (raise 4 s)) (λ s. crcFrom (fold s) (bytesOf 8 0)) (λ a b. ap fold (raise-lin 4 a b) ∙ fold-lin (raise 4 a) (raise 4 b))
-    (λ a b. ap (λ (c : ℕ). crcFrom c (bytesOf 8 0)) (fold-lin a b) ∙ zeros-lin 8 (fold a) (fold b)) 64 tt
+    basis (λ s. fold (raise 4 s)) (λ s. crcFrom (fold s) (crcBytes 8 0)) (λ a b. ap fold (raise-lin 4 a b) ∙ fold-lin (raise 4 a) (raise 4 b))
+    (λ a b. ap (λ (c : ℕ). crcFrom c (crcBytes 8 0)) (fold-lin a b) ∙ zeros-lin 8 (fold a) (fold b)) 64 tt
 
 -- two bytes enter an empty register as they would stand in a full one
-entered : (w : ℕ) → w < 2 ^ 16 → crcFrom 0 (bytesOf 2 w) ≡ crcFrom w (bytesOf 2 0)
-unfolding bytesOf crcFrom bitsIn bits bitIn leaving poly
-entered = basis (λ w. crcFrom 0 (bytesOf 2 w)) (λ w. crcFrom w (bytesOf 2 0)) (λ a b. both-xor 2 0 0 a b) (zeros-lin 2) 16 tt
+entered : (w : ℕ) → w < 2 ^ 16 → crcFrom 0 (crcBytes 2 w) ≡ crcFrom w (crcBytes 2 0)
+unfolding crcBytes crcFrom bitsIn bits bitIn leaving poly
+entered = basis (λ w. crcFrom 0 (crcBytes 2 w)) (λ w. crcFrom w (crcBytes 2 0)) (λ a b. both-xor 2 0 0 a b) (zeros-lin 2) 16 tt
 
-pub two-more : (c w : ℕ) → c < 2 ^ 16 → w < 2 ^ 16 → raise 1 (bitXor c w) ≡ crcFrom c (bytesOf 2 w)
+pub two-more : (c w : ℕ) → c < 2 ^ 16 → w < 2 ^ 16 → raise 1 (bitXor c w) ≡ crcFrom c (crcBytes 2 w)
 two-more c w h l =
     raise-lin 1 c w ∙ ap₂ bitXor (raised c h) (raised w l ∙ sym (entered w l)) ∙ sym (both-xor 2 c 0 0 w)
-    ∙ ap (λ (x : ℕ). crcFrom x (bytesOf 2 w)) (xor-zero-r c)
+    ∙ ap (λ (x : ℕ). crcFrom x (crcBytes 2 w)) (xor-zero-r c)
 
-added : (s w : ℕ) → bitXor (crcFrom (fold s) (bytesOf 8 0)) (fold w) ≡ crcFrom (fold s) (bytesOf 8 w)
+added : (s w : ℕ) → bitXor (crcFrom (fold s) (crcBytes 8 0)) (fold w) ≡ crcFrom (fold s) (crcBytes 8 w)
 unfolding fold
-added s w = sym (both-xor 8 (fold s) 0 0 w) ∙ ap (λ (x : ℕ). crcFrom x (bytesOf 8 w)) (xor-zero-r (fold s))
+added s w = sym (both-xor 8 (fold s) 0 0 w) ∙ ap (λ (x : ℕ). crcFrom x (crcBytes 8 w)) (xor-zero-r (fold s))
 
 -- and eight bytes that are not zero are added to them
-pub eight-more : (s w : ℕ) → s < 2 ^ 64 → fold (bitXor (raise 4 s) w) ≡ crcFrom (fold s) (bytesOf 8 w)
+pub eight-more : (s w : ℕ) → s < 2 ^ 64 → fold (bitXor (raise 4 s) w) ≡ crcFrom (fold s) (crcBytes 8 w)
 eight-more s w h = fold-lin (raise 4 s) w ∙ ap (λ (x : ℕ). bitXor x (fold w)) (lifted s h) ∙ added s w
 
 -- and it stays a register of 64 bits
@@ -101,5 +101,5 @@ eight-fits s w h l = xor-lt 64 (raise 4 s) w (shifts-fit 64 (rest 4 (quotient 4)
 
 -- what stands in it at the start
 pub started : fold 33999 ≡ 65535
-unfolding fold bytesOf crcFrom bitsIn bits bitIn leaving poly
+unfolding fold crcBytes crcFrom bitsIn bits bitIn leaving poly
 started = refl

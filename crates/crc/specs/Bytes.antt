@@ -4,6 +4,6 @@ use Prim.Native.Nat.{ℕ, zero, suc, _/_, _%_}
 use mathlib.Core.List.{List, [], _∷_, _++_}
 
 -- the n lowest bytes of a number, the highest of them first
-unfoldable pub bytesOf : ℕ → ℕ → List ℕ
-bytesOf zero w = []
-bytesOf (suc n) w = bytesOf n (w / 256) ++ (w % 256 ∷ [])
+unfoldable pub crcBytes : ℕ → ℕ → List ℕ
+crcBytes zero w = []
+crcBytes (suc n) w = crcBytes n (w / 256) ++ (w % 256 ∷ [])

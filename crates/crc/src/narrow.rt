@@ -3,7 +3,7 @@ ghost use mathlib.Core.Path.{_≡_};
 ghost use mathlib.Core.List.{[], _∷_};
 ghost use Prim.Native.Nat.{_/_};
 ghost use Rattle.crc.specs.Crc.{crcFrom};
-ghost use Rattle.crc.specs.Bytes.{bytesOf};
+ghost use Rattle.crc.specs.Bytes.{crcBytes};
 
 fn high(c: u16) -> u8
     ensures { λ r. ⌜ r ≡ c / 256 ⌝ }
@@ -21,7 +21,7 @@ pub fn one(c: u16, b: u8) -> u16
 }
 
 fn two(c: u16, w: u16) -> u16
-    ensures { λ r. ⌜ r ≡ crcFrom c (bytesOf 2 w) ⌝ }
+    ensures { λ r. ⌜ r ≡ crcFrom c (crcBytes 2 w) ⌝ }
 {
     let s = c ^ w;
     let u = s ^ (s >> 4);
@@ -30,7 +30,7 @@ fn two(c: u16, w: u16) -> u16
 }
 
 pub fn four(c: u16, w: u32) -> u16
-    ensures { λ r. ⌜ r ≡ crcFrom c (bytesOf 4 w) ⌝ }
+    ensures { λ r. ⌜ r ≡ crcFrom c (crcBytes 4 w) ⌝ }
 {
     two(two(c, (w / 65536) as u16), (w % 65536) as u16)
 }

@@ -4,17 +4,17 @@ ghost use mathlib.Core.Path.{_≡_};
 ghost use mathlib.Core.List.{[], _∷_};
 ghost use lib.ListN.{length};
 ghost use Rattle.crc.specs.Crc.{crcFrom};
-ghost use Rattle.crc.specs.Bytes.{bytesOf};
+ghost use Rattle.crc.specs.Bytes.{crcBytes};
 
 pub fn fold_of(s: u64) -> u16
-    ensures { λ r. ⌜ r ≡ crcFrom 0 (bytesOf 8 s) ⌝ }
+    ensures { λ r. ⌜ r ≡ crcFrom 0 (crcBytes 8 s) ⌝ }
 {
     four(four(0, (s / 4294967296) as u32), (s % 4294967296) as u32)
 }
 
 // Eight bytes as a number, the first one highest. In one chain of `|` the compiler sees one load.
 fn joined(a: u8, b: u8, c: u8, d: u8, e: u8, f: u8, g: u8, h: u8) -> u64
-    ensures { λ r. ⌜ bytesOf 8 r ≡ a ∷ b ∷ c ∷ d ∷ e ∷ f ∷ g ∷ h ∷ [] ⌝ }
+    ensures { λ r. ⌜ crcBytes 8 r ≡ a ∷ b ∷ c ∷ d ∷ e ∷ f ∷ g ∷ h ∷ [] ⌝ }
 {
     ((a as u64) << 56)
         | ((b as u64) << 48)
@@ -28,7 +28,7 @@ fn joined(a: u8, b: u8, c: u8, d: u8, e: u8, f: u8, g: u8, h: u8) -> u64
 
 pub fn word_of(part: &[u8]) -> u64
     requires { ⌜ length (now part) ≡ 8 ⌝ }
-    ensures { λ r. ⌜ bytesOf 8 r ≡ now (part .entry) ⌝ }
+    ensures { λ r. ⌜ crcBytes 8 r ≡ now (part .entry) ⌝ }
 {
     joined(
         part[0],

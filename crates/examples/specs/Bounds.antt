@@ -20,7 +20,7 @@ use Rattle.rules.specs.declared.Pod.{Pod}
 use Rattle.rules.specs.State.{freshPod, withInitialised, withFields, withParams, withExchange, withWords, withRing, withPipe}
 use Rattle.rules.specs.World.{World, world, withPod, packet, deadline, samples, isAnswered}
 use Rattle.rules.specs.Demands.{justPowered}
-use Rattle.examples.specs.Shown.{Line, line, AsExpected}
+use Rattle.examples.specs.Shown.{ComputedLine, line, AsExpected}
 use Rattle.examples.specs.Edges.{refusalIn}
 
 -- ---- the parameters
@@ -48,7 +48,7 @@ valued id vs =
     ++ map (λ (v : ℤ). oneIf (isAnswered (bent (withParams (stored startParams id v))) deadline)) vs
 
 -- by id: one below the least, the least, the most, one above; "parameter 1 below parameter 2" ends the first two sooner
-abbrev pub valuesBounded : List Line
+abbrev pub valuesBounded : List ComputedLine
 valuesBounded =
     -- "Ids 0 and over 12 get 0x39"
     line (map (λ (id : ℕ). oneIf (writeAllowed startParams id (pos 0))) (0 ∷ 13 ∷ [])) (0 ∷ 0 ∷ [])
@@ -99,8 +99,8 @@ kept =
     ∷ []
 
 -- past one bound each
-abbrev pub past : List (Pod → Pod)
-past =
+abbrev pub onePast : List (Pod → Pod)
+onePast =
     -- "place of the oldest block under its capacity, waiting at most its capacity"
     ringed Priority 0 17
     ∷ ringed Priority 16 0
@@ -150,10 +150,10 @@ lending a b c d e =
     world freshPod (record { priority = replicate a 0; ordinary = replicate b 0; tables = three (replicate c 0) (replicate d 0) (replicate e 0); load = replicate 64 0 })
 
 -- the table
-abbrev pub bounds : List Line
+abbrev pub bounds : List ComputedLine
 bounds =
     map (λ (f : Pod → Pod). line (refusalIn (bent f) deadline) []) (kept ++ wakeful)
-    ++ map (λ (f : Pod → Pod). line (refusalIn (bent f) deadline) (3 ∷ [])) past
+    ++ map (λ (f : Pod → Pod). line (refusalIn (bent f) deadline) (3 ∷ [])) onePast
     ++ map (λ (f : Pod → Pod). line (refusalIn (asleep f) deadline) (3 ∷ [])) wakeful
     -- 2: "a lent store or table is not its exact size"
     ++ (line (refusalIn (lending 4096 32768 64 128 64) (packet [] (replicate 260 0))) []

@@ -12,7 +12,7 @@ use Rattle.rules.specs.State.{Lent, freshPod}
 use Rattle.rules.specs.Refusals.{done}
 use Rattle.rules.specs.Families.{status, PipeCall, byte, timeout}
 use Rattle.rules.specs.World.{world, Call, power, packet, deadline, put, word, pipe, samples, Told, told, answering, step, final, tells}
-use Rattle.examples.specs.Shown.{justInitialised, wordsOut, statusAfter, fiveAfter, order, loading, reading, load, read, Line, line, AsExpected}
+use Rattle.examples.specs.Shown.{justInitialised, wordsOut, statusAfter, fiveAfter, order, loading, reading, load, read, ComputedLine, line, AsExpected}
 
 -- a Shutdown
 abbrev pub off : List Call
@@ -38,7 +38,7 @@ abbrev pub framesWith : ℕ → ℕ → ℕ → List ℕ
 framesWith a b c = 0 ∷ 0 ∷ 61 ∷ a ∷ 62 ∷ b ∷ 63 ∷ c ∷ 0 ∷ 0 ∷ 65 ∷ 0 ∷ 66 ∷ 0 ∷ 67 ∷ 0 ∷ []
 
 -- the table; x, y and z are any words
-abbrev pub computed : ℕ → ℕ → ℕ → List Line
+abbrev pub computed : ℕ → ℕ → ℕ → List ComputedLine
 computed x y z =
     -- LoadWhole: a load to table 5 whose word 1 or word 3 is wrong is not taken; one to table 6 is, and to no other table
     line (fiveAfter (load 6 63 1 x) ++ statusAfter (load 6 63 1 x)) (replicate 64 0 ++ (2 ∷ []))
@@ -82,15 +82,15 @@ Computed = (x y z : ℕ) → AsExpected (computed x y z)
 
 -- ---- a conversation from power on
 
-pub record Turn : Type 0 where
+pub record TalkTurn : Type 0 where
   pub call : Call
   pub told : Told
 
 -- a packet and its whole answer, a block put
-abbrev pub asks : List ℕ → List ℕ → Turn
+abbrev pub asks : List ℕ → List ℕ → TalkTurn
 asks b answer = record { call = packet b (replicate 260 0); told = answering (replicate 260 0) answer }
 
-abbrev pub brings : Store → ℕ → Turn
+abbrev pub brings : Store → ℕ → TalkTurn
 brings s b = record { call = put s (replicate 256 b); told = told (gave done) [] }
 
 -- all that is lent, with anything in it
@@ -103,7 +103,7 @@ dusty =
       load = replicate 64 0xEE;
     }
 
-abbrev pub conversation : List Turn
+abbrev pub conversation : List TalkTurn
 conversation =
     record { call = power; told = told (gave done) [] }
     -- PacketAnswered: document 01's session, not initialised, no code, too short, empty
@@ -147,4 +147,4 @@ conversation =
 -- BlocksAreHistory, ReceiveIsHistory, StatusIsHistory: a block is put, sent, kept, sent again, acknowledged and dropped, and
 -- remaining falls to where no more is sent
 abbrev pub Conversation : Type 0
-Conversation = tells (world freshPod dusty) (map (λ (t : Turn). t .call) conversation) ≡ map (λ (t : Turn). t .told) conversation
+Conversation = tells (world freshPod dusty) (map (λ (t : TalkTurn). t .call) conversation) ≡ map (λ (t : TalkTurn). t .told) conversation

@@ -8,14 +8,14 @@ use Rattle.blocks.specs.declared.Store.{Store}
 use Rattle.blocks.specs.declared.Store.the-variants.{Priority, Ordinary}
 use Rattle.tables.specs.Tables.{three}
 use Rattle.rules.specs.State.{withRing, withPipe, withTables}
-use Rattle.rules.specs.Refusals.{Given}
+use Rattle.rules.specs.Refusals.{Giving}
 use Rattle.rules.specs.Families.{command, status, byte}
 use Rattle.rules.specs.World.{World, withPod, Call, power, packet, deadline, put, word, pipe, samples, step}
 use Rattle.rules.specs.Demands.{justPowered}
-use Rattle.examples.specs.Shown.{justInitialised, Line, line, AsExpected}
+use Rattle.examples.specs.Shown.{justInitialised, ComputedLine, line, AsExpected}
 
 -- the number that a call is refused by, none where it is answered
-abbrev pub refusedBy : Said Given → List ℕ
+abbrev pub refusedBy : Said Giving → List ℕ
 refusedBy (refused n) = n ∷ []
 refusedBy (gave g) = []
 
@@ -36,7 +36,7 @@ abbrev pub broken : World
 broken = counting 16 justPowered
 
 -- the table
-abbrev pub edges : List Line
+abbrev pub edges : List ComputedLine
 edges =
     -- each number, where higher rows hold too
     line (refusalIn (bare broken) (packet [] [])) (1 ∷ [])

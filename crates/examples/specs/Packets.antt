@@ -11,11 +11,11 @@ use Rattle.rules.specs.State.{freshPod}
 use Rattle.rules.specs.Refusals.{done}
 use Rattle.rules.specs.World.{World, world, power, packet, told, next, tells}
 use Rattle.examples.specs.Shown.{justInitialised}
-use Rattle.examples.specs.Computed.{Turn, asks, brings, dusty}
+use Rattle.examples.specs.Computed.{TalkTurn, asks, brings, dusty}
 
 -- a world tells what each turn expects
-abbrev pub Talks : World → List Turn → Type 0
-Talks w ts = tells w (map (λ (t : Turn). t .call) ts) ≡ map (λ (t : Turn). t .told) ts
+abbrev pub Talks : World → List TalkTurn → Type 0
+Talks w ts = tells w (map (λ (t : TalkTurn). t .call) ts) ≡ map (λ (t : TalkTurn). t .told) ts
 
 -- success of an Initialise, an Update, a write
 abbrev pub success : ℕ → ℕ → ℕ → List ℕ
@@ -26,7 +26,7 @@ abbrev pub fails : ℕ → ℕ → ℕ → ℕ → List ℕ
 fails first n high low = first ∷ 0x09 ∷ n ∷ high ∷ low ∷ []
 
 -- from power on, asleep: what checks 2 to 6 find is told before check 7
-abbrev pub checks : List Turn
+abbrev pub checks : List TalkTurn
 checks =
     record { call = power; told = told (gave done) [] }
     -- 2: the CRC's high byte wrong, its low byte wrong; 6: one byte too long
@@ -61,7 +61,7 @@ checks =
 
 -- a pod just initialised: nothing waits; parameters of ids 0 and 13; 1 at 2's value and one below; 4 at its most and one above, and
 -- read; then a Status, which asks for 2, 3, 6 and 7
-abbrev pub values : List Turn
+abbrev pub values : List TalkTurn
 values =
     asks (0x95 ∷ 0x01 ∷ 0xEA ∷ 0x30 ∷ []) (fails 0x95 0x3A 0x72 0xD4)
     ∷ asks (0x96 ∷ 0x01 ∷ 0xBF ∷ 0x63 ∷ []) (fails 0x96 0x3A 0x2B 0x84)
@@ -76,14 +76,14 @@ values =
     ∷ []
 
 -- an Update of every field, and its success
-abbrev pub update : Turn
+abbrev pub update : TalkTurn
 update =
     asks
     (0x92 ∷ 0x01 ∷ 0x02 ∷ 0xAB ∷ 0xCD ∷ 0x00 ∷ 0x00 ∷ 0x1F ∷ 0xE7 ∷ 0x00 ∷ 0x03 ∷ 0x00 ∷ 0x01 ∷ 0x00 ∷ 0x00 ∷ 0x00 ∷ 0x05 ∷ 0x00 ∷ 0x00 ∷ 0x00 ∷ 0x04 ∷ 0xEA ∷ 0x60 ∷ 0x93 ∷ 0xDC ∷ [])
     (success 0x92 0x76 0xAD)
 
 -- the same with mode 4
-abbrev pub unfit : Turn
+abbrev pub unfit : TalkTurn
 unfit =
     asks
     (0x92 ∷ 0x01 ∷ 0x04 ∷ 0xAB ∷ 0xCD ∷ 0x00 ∷ 0x00 ∷ 0x1F ∷ 0xE7 ∷ 0x00 ∷ 0x03 ∷ 0x00 ∷ 0x01 ∷ 0x00 ∷ 0x00 ∷ 0x00 ∷ 0x05 ∷ 0x00 ∷ 0x00 ∷ 0x00 ∷ 0x04 ∷ 0xEA ∷ 0x60 ∷ 0x4F ∷ 0xAA ∷ [])

@@ -14,7 +14,7 @@ use Rattle.orders.specs.Command.{tableNumber}
 use Rattle.tables.specs.Port.{dataCount}
 use Rattle.rules.specs.State.{freshFields}
 use Rattle.rules.specs.Obey.{exchangeCode}
-use Rattle.rules.specs.Refusals.{Given, done, bytes, reads}
+use Rattle.rules.specs.Refusals.{Giving, done, bytes, reads}
 use Rattle.rules.specs.Families.{command, dataIn, dataOut, status, byte, timeout}
 use Rattle.rules.specs.World.{World, Call, packet, word, pipe, samples, Told, step, next, final, tells}
 use Rattle.rules.specs.Demands.{justPowered}
@@ -24,7 +24,7 @@ unfoldable pub justInitialised : World
 justInitialised = next justPowered (packet (commandBytes (Initialise freshFields)) (replicate 260 0))
 
 -- the number that a call gives: the length of an answer, a word
-abbrev pub numberIn : Said Given → List ℕ
+abbrev pub numberIn : Said Giving → List ℕ
 numberIn (refused n) = []
 numberIn (gave done) = []
 numberIn (gave (bytes n)) = n ∷ []
@@ -98,19 +98,19 @@ timeouts (suc n) = pipe (byte 0) ∷ pipe timeout ∷ timeouts n
 abbrev pub countAfter : ℕ → ℕ
 countAfter n = getD (framesAfter (timeouts n)) 0 0 / 16
 
-pub record Line : Type 0 where
+pub record ComputedLine : Type 0 where
   pub got : List ℕ
   pub expected : List ℕ
 
-abbrev pub line : List ℕ → List ℕ → Line
+abbrev pub line : List ℕ → List ℕ → ComputedLine
 line g e = record { got = g; expected = e }
 
 -- each line is as expected
-abbrev pub AsExpected : List Line → Type 0
-AsExpected ls = map (λ (l : Line). l .got) ls ≡ map (λ (l : Line). l .expected) ls
+abbrev pub AsExpected : List ComputedLine → Type 0
+AsExpected ls = map (λ (l : ComputedLine). l .got) ls ≡ map (λ (l : ComputedLine). l .expected) ls
 
 -- the table; x is any word
-abbrev pub shown : ℕ → List Line
+abbrev pub shown : ℕ → List ComputedLine
 shown x =
     -- P1 to P3: the CRC of no bytes, of FF, of FF FF
     line (crcOf [] ∷ []) (0xFFFF ∷ [])

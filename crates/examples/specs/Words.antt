@@ -5,7 +5,7 @@ use mathlib.Core.List.{List, [], _∷_, _++_}
 use lib.ListN.{replicate}
 use Rattle.tables.specs.Tables.{listed}
 use Rattle.rules.specs.World.{Call, final}
-use Rattle.examples.specs.Shown.{justInitialised, wordsOut, statusAfter, fiveAfter, order, loading, reading, load, read, Line, line, AsExpected}
+use Rattle.examples.specs.Shown.{justInitialised, wordsOut, statusAfter, fiveAfter, order, loading, reading, load, read, ComputedLine, line, AsExpected}
 use Rattle.examples.specs.Computed.{shows}
 
 -- table 6 after some calls, and table 7
@@ -24,7 +24,7 @@ abbrev pub readsEach : List Call
 readsEach = order 0x4C06 ++ reading 6 ++ order 0xCE06 ++ reading 6 ++ read
 
 -- the table; x, y and z are any words
-abbrev pub words : ℕ → ℕ → ℕ → List Line
+abbrev pub words : ℕ → ℕ → ℕ → List ComputedLine
 words x y z =
     -- "Starts: tables 5 and 6 all 0; table 7 word i is 256 times i"
     line (fiveAfter []) (replicate 64 0)

@@ -5,11 +5,11 @@ use mathlib.Core.Bool.{Bool, true, cond, not, _&&_, _||_}
 use mathlib.Core.List.{List, [], _∷_}
 use lib.Dec.{ltb, leb, eqb}
 use lib.ListN.{getD}
-use Rattle.frames.specs.Fields.{Field, part}
+use Rattle.frames.specs.Fields.{Field, bitsOf}
 
 -- a channel in a frame: "low byte, then bits 9 and 8"
 unfoldable pub channelAt : List ℕ → ℕ → ℕ
-channelAt bytes k = getD bytes k 0 + part (getD bytes (k + 1) 0) 1 0 * 256
+channelAt bytes k = getD bytes k 0 + bitsOf (getD bytes (k + 1) 0) 1 0 * 256
 
 -- two fields that share no bit
 abbrev pub apart : Field → Field → Bool
@@ -39,4 +39,4 @@ Each P (f ∷ fs) = P f × Each P fs
 
 -- a field's value can be read back from a frame
 abbrev pub ReadBack : List ℕ → Field → Type 0
-ReadBack bytes f = part (getD bytes (f .byte) 0) (f .high) (f .low) ≡ f .value
+ReadBack bytes f = bitsOf (getD bytes (f .byte) 0) (f .high) (f .low) ≡ f .value

@@ -20,8 +20,8 @@ abbrev pub fieldBit : ℕ → ℕ → Bool → Field
 fieldBit b l f = fieldBits b l l (cond f 1 0)
 
 -- bits high..low of a number
-abbrev pub part : ℕ → ℕ → ℕ → ℕ
-part v h l = v / 2 ^ l % 2 ^ (h + 1 - l)
+abbrev pub bitsOf : ℕ → ℕ → ℕ → ℕ
+bitsOf v h l = v / 2 ^ l % 2 ^ (h + 1 - l)
 
 -- what the fields of a byte come to: each stands from its lowest bit up
 unfoldable pub placed : List Field → ℕ → ℕ

@@ -7,7 +7,7 @@ use Rattle.pipe.specs.declared.Pipe.{Pipe}
 use Rattle.pipe.specs.Input.{gatheringOf}
 use Rattle.frames.specs.declared.Frames.{Frames}
 use Rattle.frames.specs.Samples.{averagesOf}
-use Rattle.frames.specs.Fields.{Field, fieldBits, fieldBit, part, frame}
+use Rattle.frames.specs.Fields.{Field, fieldBits, fieldBit, bitsOf, frame}
 
 -- 0x24MM Module Status AN03 in byte-pipe mode, each line of the guide with what document 01 puts there: of the eight averages,
 -- the pipe, initialised or not, and the self-check number
@@ -22,7 +22,7 @@ lines03 averages pipe initialised selfcheck =
     -- 1.3-0 count of pipe-writes received with power off
     ∷ fieldBits 1 3 0 0
     -- 2.7-0 analog channel 1 bits 7..0
-    ∷ fieldBits 2 7 0 (part (getD averages 1 0) 7 0)
+    ∷ fieldBits 2 7 0 (bitsOf (getD averages 1 0) 7 0)
     -- 3.7 pipe-IN busy: "1 when 1 to 7 bytes are gathered"
     ∷ fieldBit 3 7 (gatheringOf (pipe .input))
     -- 3.6 pipe-IN in error recovery
@@ -32,9 +32,9 @@ lines03 averages pipe initialised selfcheck =
     -- 3.4-2 reserved
     ∷ fieldBits 3 4 2 0
     -- 3.1-0 analog channel 1 bits 9..8
-    ∷ fieldBits 3 1 0 (part (getD averages 1 0) 9 8)
+    ∷ fieldBits 3 1 0 (bitsOf (getD averages 1 0) 9 8)
     -- 4.7-0 analog channel 2 bits 7..0
-    ∷ fieldBits 4 7 0 (part (getD averages 2 0) 7 0)
+    ∷ fieldBits 4 7 0 (bitsOf (getD averages 2 0) 7 0)
     -- 5.7 pipe-OUT busy
     ∷ fieldBit 5 7 false
     -- 5.6 pipe-OUT in error recovery
@@ -48,15 +48,15 @@ lines03 averages pipe initialised selfcheck =
     -- 5.2 module switched power state: "1 when initialised"
     ∷ fieldBit 5 2 initialised
     -- 5.1-0 analog channel 2 bits 9..8
-    ∷ fieldBits 5 1 0 (part (getD averages 2 0) 9 8)
+    ∷ fieldBits 5 1 0 (bitsOf (getD averages 2 0) 9 8)
     -- 6.7-0 analog channel 3 bits 7..0
-    ∷ fieldBits 6 7 0 (part (getD averages 3 0) 7 0)
+    ∷ fieldBits 6 7 0 (bitsOf (getD averages 3 0) 7 0)
     -- 7.7 module interface not ready
     ∷ fieldBit 7 7 false
     -- 7.6 to 7.4 checksums of three memories, 7.3-2 mode bits: "the self-check number in 7.6-2"
     ∷ fieldBits 7 6 2 selfcheck
     -- 7.1-0 analog channel 3 bits 9..8
-    ∷ fieldBits 7 1 0 (part (getD averages 3 0) 9 8)
+    ∷ fieldBits 7 1 0 (bitsOf (getD averages 3 0) 9 8)
     ∷ []
 
 -- 0x28MM Module Status AN47 in byte-pipe mode, each line of the guide: of the eight averages
@@ -67,23 +67,23 @@ lines47 averages =
     -- 1.7-0 reserved
     ∷ fieldBits 1 7 0 0
     -- 2.7-0 analog channel 5 bits 7..0
-    ∷ fieldBits 2 7 0 (part (getD averages 5 0) 7 0)
+    ∷ fieldBits 2 7 0 (bitsOf (getD averages 5 0) 7 0)
     -- 3.7-2 reserved
     ∷ fieldBits 3 7 2 0
     -- 3.1-0 analog channel 5 bits 9..8
-    ∷ fieldBits 3 1 0 (part (getD averages 5 0) 9 8)
+    ∷ fieldBits 3 1 0 (bitsOf (getD averages 5 0) 9 8)
     -- 4.7-0 analog channel 6 bits 7..0
-    ∷ fieldBits 4 7 0 (part (getD averages 6 0) 7 0)
+    ∷ fieldBits 4 7 0 (bitsOf (getD averages 6 0) 7 0)
     -- 5.7-2 reserved
     ∷ fieldBits 5 7 2 0
     -- 5.1-0 analog channel 6 bits 9..8
-    ∷ fieldBits 5 1 0 (part (getD averages 6 0) 9 8)
+    ∷ fieldBits 5 1 0 (bitsOf (getD averages 6 0) 9 8)
     -- 6.7-0 analog channel 7 bits 7..0
-    ∷ fieldBits 6 7 0 (part (getD averages 7 0) 7 0)
+    ∷ fieldBits 6 7 0 (bitsOf (getD averages 7 0) 7 0)
     -- 7.7-2 reserved
     ∷ fieldBits 7 7 2 0
     -- 7.1-0 analog channel 7 bits 9..8
-    ∷ fieldBits 7 1 0 (part (getD averages 7 0) 9 8)
+    ∷ fieldBits 7 1 0 (bitsOf (getD averages 7 0) 9 8)
     ∷ []
 
 -- "The two frames have the byte-pipe layout of document 000 (AN03, then AN47)", of the averages over n passes

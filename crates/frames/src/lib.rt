@@ -6,7 +6,7 @@ ghost use mathlib.Core.List.{map};
 ghost use Prim.Native.Nat.{ℕ, _+_, _/_, _≤_, _<_};
 ghost use lib.ListN.{length};
 ghost use Rattle.frames.specs.Samples.{channels, sumOf, averagesOf, boundedOf};
-ghost use Rattle.frames.specs.Fields.{part, frame};
+ghost use Rattle.frames.specs.Fields.{bitsOf, frame};
 ghost use Rattle.frames.specs.Layout.{lines03, lines47, framesOf};
 
 // The samples of a set: eight channels by sixteen passes.
@@ -76,14 +76,14 @@ pub fn averages(samples: &[u16]) -> [u16; 8]
 
 // Bits 7..0 of an average.
 fn low(v: u16) -> u8
-    ensures { λ r. ⌜ r ≡ part v 7 0 ⌝ }
+    ensures { λ r. ⌜ r ≡ bitsOf v 7 0 ⌝ }
 {
     (v % 256) as u8
 }
 
 // Bits 9..8 of an average.
 fn high(v: u16) -> u8
-    ensures { λ r. ⌜ r ≡ part v 9 8 ⌝ }
+    ensures { λ r. ⌜ r ≡ bitsOf v 9 8 ⌝ }
 {
     (v / 256 % 4) as u8
 }

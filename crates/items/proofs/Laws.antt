@@ -8,7 +8,7 @@ use mathlib.Core.List.{List, [], _∷_, _++_}
 use lib.Dec.{ltb, eqb}
 use borrow.Author.Tests.{lt-ltb, ltb-true, eqb-true}
 use Rattle.hex.specs.Digits.{digitOf, byteDigits, wordDigits}
-use Rattle.items.specs.Text.{spell, pairIn, byteItem, wordItem, reading, bytesIn, wordsIn}
+use Rattle.items.specs.Text.{spell, pairIn, byteItem, wordItem, itemsRead, bytesIn, wordsIn}
 use Rattle.rows.proofs.Bool.{split, and-left, and-right}
 use Rattle.items.proofs.Numerals.{pair-back, pair-is}
 
@@ -33,7 +33,7 @@ byte-is s h l k =
     ap (λ (x : ℕ). x ∷ h ∷ l ∷ []) (p .0) ∙ ap (λ (x : List ℕ). 32 ∷ x) (sym d ∙ ap byteDigits (sym (p .1)))
 
 -- bytes written are read again
-pub bytes-back : (bs : List ℕ) → Under 256 bs → bytesIn (spell bs) ≡ reading bs true
+pub bytes-back : (bs : List ℕ) → Under 256 bs → bytesIn (spell bs) ≡ itemsRead bs true
 unfolding bytesIn spell
 bytes-back [] u = refl
 bytes-back (b ∷ bs) u = rw (byte-back b (u .0), lt-ltb b 256 (u .0), bytes-back bs (u .1))
@@ -101,7 +101,7 @@ word-is s a b c d k =
     ∙ ap (λ (x : List ℕ). 32 ∷ (byteDigits (wordItem s a b c d / 256) ++ x)) (sym (pair-is c d (p .2)) ∙ ap byteDigits (sym r))
 
 -- .. and the text
-pub words-back : (ws : List ℕ) → Under 65536 ws → wordsIn (spellWords ws) ≡ reading ws true
+pub words-back : (ws : List ℕ) → Under 65536 ws → wordsIn (spellWords ws) ≡ itemsRead ws true
 unfolding wordsIn spellWords
 words-back [] u = refl
 words-back (w ∷ ws) u = rw (word-back w (u .0), lt-ltb w 65536 (u .0), words-back ws (u .1))

@@ -8,7 +8,7 @@ use mathlib.Core.List.{List, [], _∷_, _++_}
 use lib.ListN.{length, drop, getD, drop-of-length-le, length-append}
 use Rattle.hex.specs.Digits.{byteDigits}
 use Rattle.items.specs.Text.{spell}
-use Rattle.items.specs.Printed.{answered, bytesLine, decimal, refusedLine}
+use Rattle.items.specs.Printed.{answerLine, bytesLine, decimal, refusedLine}
 use Rattle.items.proofs.Lists.{next}
 
 -- the next byte
@@ -29,13 +29,13 @@ spell-length (b ∷ bs) = omega (arith, spell-length bs)
 
 -- a line of no bytes ..
 pub none-line : (c : ℕ) (bs : List ℕ) → length bs ≡ 0 → bytesLine c bs ≡ c ∷ 32 ∷ 45 ∷ 10 ∷ []
-unfolding bytesLine answered
+unfolding bytesLine answerLine
 none-line c [] h = refl
 none-line c (b ∷ bs) h = absurd (omega arith)
 
 -- .. and of some
 pub some-line : (c : ℕ) (bs : List ℕ) → (length bs ≡ 0 → ⊥) → bytesLine c bs ≡ (c ∷ []) ++ (spell bs ++ (10 ∷ []))
-unfolding bytesLine answered
+unfolding bytesLine answerLine
 some-line c [] h = absurd (h refl)
 some-line c (b ∷ bs) h = refl
 

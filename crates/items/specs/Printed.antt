@@ -9,13 +9,13 @@ use Rattle.items.specs.Characters.{newline, space, bang, dash, zeroDigit
 use Rattle.items.specs.Text.{spell}
 
 -- "the answer in the same form, `P -` for an answer of length 0"
-unfoldable pub answered : List ℕ → List ℕ
-answered [] = space ∷ dash ∷ []
-answered (b ∷ bs) = spell (b ∷ bs)
+unfoldable pub answerLine : List ℕ → List ℕ
+answerLine [] = space ∷ dash ∷ []
+answerLine (b ∷ bs) = spell (b ∷ bs)
 
 -- a letter and bytes
 unfoldable pub bytesLine : ℕ → List ℕ → List ℕ
-bytesLine c bs = c ∷ (answered bs ++ (newline ∷ []))
+bytesLine c bs = c ∷ (answerLine bs ++ (newline ∷ []))
 
 -- a letter and a word
 unfoldable pub wordLine : ℕ → ℕ → List ℕ

@@ -35,34 +35,34 @@ unfoldable pub wordItem : ℕ → ℕ → ℕ → ℕ → ℕ → ℕ
 wordItem s a b c d = cond (eqb s space && (ltb (pairIn a b) 256 && ltb (pairIn c d) 256)) (pairIn a b * 256 + pairIn c d) 65536
 
 -- a text read from its front: the values up to the first place that is no item, and whether that place is the end
-pub record Reading : Type 0 where
+pub record ItemsRead : Type 0 where
   pub values : List ℕ
   pub whole : Bool
 
-abbrev pub reading : List ℕ → Bool → Reading
-reading vs b = record { values = vs; whole = b }
+abbrev pub itemsRead : List ℕ → Bool → ItemsRead
+itemsRead vs b = record { values = vs; whole = b }
 
 -- a value, and what is read behind it
-abbrev pub behind : ℕ → Reading → Reading
-behind v r = reading (v ∷ r .values) (r .whole)
+abbrev pub behindItem : ℕ → ItemsRead → ItemsRead
+behindItem v r = itemsRead (v ∷ r .values) (r .whole)
 
 -- a text of byte items
-unfoldable pub bytesIn : List ℕ → Reading
-bytesIn [] = reading [] true
-bytesIn (s ∷ []) = reading [] false
-bytesIn (s ∷ h ∷ []) = reading [] false
-bytesIn (s ∷ h ∷ l ∷ rest) = cond (ltb (byteItem s h l) 256) (behind (byteItem s h l) (bytesIn rest)) (reading [] false)
+unfoldable pub bytesIn : List ℕ → ItemsRead
+bytesIn [] = itemsRead [] true
+bytesIn (s ∷ []) = itemsRead [] false
+bytesIn (s ∷ h ∷ []) = itemsRead [] false
+bytesIn (s ∷ h ∷ l ∷ rest) = cond (ltb (byteItem s h l) 256) (behindItem (byteItem s h l) (bytesIn rest)) (itemsRead [] false)
 
 -- a text of word items
-unfoldable pub wordsIn : List ℕ → Reading
-wordsIn [] = reading [] true
-wordsIn (s ∷ []) = reading [] false
-wordsIn (s ∷ a ∷ []) = reading [] false
-wordsIn (s ∷ a ∷ b ∷ []) = reading [] false
-wordsIn (s ∷ a ∷ b ∷ c ∷ []) = reading [] false
+unfoldable pub wordsIn : List ℕ → ItemsRead
+wordsIn [] = itemsRead [] true
+wordsIn (s ∷ []) = itemsRead [] false
+wordsIn (s ∷ a ∷ []) = itemsRead [] false
+wordsIn (s ∷ a ∷ b ∷ []) = itemsRead [] false
+wordsIn (s ∷ a ∷ b ∷ c ∷ []) = itemsRead [] false
 wordsIn (s ∷ a ∷ b ∷ c ∷ d ∷ rest) =
-    cond (ltb (wordItem s a b c d) 65536) (behind (wordItem s a b c d) (wordsIn rest)) (reading [] false)
+    cond (ltb (wordItem s a b c d) 65536) (behindItem (wordItem s a b c d) (wordsIn rest)) (itemsRead [] false)
 
 -- what a reader answers: how many values where the text is whole, else that it is bad
-unfoldable pub itemsOf : Reading → Items
+unfoldable pub itemsOf : ItemsRead → Items
 itemsOf r = cond (r .whole) (Good (length (r .values))) Bad

@@ -8,7 +8,7 @@ use lib.Seq.{length-take-le, take-at, drop-at}
 use Rattle.rules.specs.declared.Pod.{Pod}
 use Rattle.lines.specs.Asked.{Asked}
 use Rattle.line_calls.specs.declared.Sizes.{Sizes}
-use Rattle.line_calls.specs.declared.Spoken.{Spoken}
+use Rattle.line_calls.specs.declared.LineSaid.{LineSaid}
 use Rattle.line_calls.specs.Memory.{Memory, memory, lentAt, behind, SizesFit}
 use Rattle.line_calls.specs.Promise.{LineAnswered}
 
@@ -56,6 +56,6 @@ module _ (s : Sizes) (m parts : Memory) (f : SizesFit s m) (k : PartsKept s m pa
       (rest-is (s .seven) (m .seven) (parts .seven) (f .seven) (k .seven) i)
       []
 
-  pub answered-lent : (a : Asked) (p : Pod) (r : Spoken) (o o′ : List ℕ) (at : ℕ) → LineAnswered a p (lentAt s m) parts r o o′ at
+  pub answered-lent : (a : Asked) (p : Pod) (r : LineSaid) (o o′ : List ℕ) (at : ℕ) → LineAnswered a p (lentAt s m) parts r o o′ at
       → LineAnswered a p (lentAt s m) (lentAt s (comeBack s m parts)) r o o′ at
   answered-lent a p r o o′ at l = subst (λ (x : Memory). LineAnswered a p (lentAt s m) x r o o′ at) (sym lent-is) l

@@ -18,7 +18,7 @@ use Rattle.packets.specs.Reading.{packetRead}
 use Rattle.packets.specs.Answers.{errorAnswer}
 use Rattle.packets.proofs.Laws.{error-length}
 use Rattle.rules.specs.declared.Pod.{Pod}
-use Rattle.rules.specs.Refusals.{Given, done, bytes, reads}
+use Rattle.rules.specs.Refusals.{Giving, done, bytes, reads}
 use Rattle.rules.specs.Obey.{checksOf}
 use Rattle.rules.specs.World.{World, packet, Told, answering, step, isRefused}
 use Rattle.rules.specs.Checks.{Answers, AnswersCommand}
@@ -66,7 +66,7 @@ packet-short w b room n e =
     answers-short (packetRead b) (w .pod) room (step w (packet b room) .told) n (packet-answered w b room answered) e
 
 -- so the line of a packet is that of the first 260 bytes of its room
-said-short : (s : Said Given) (room : List ℕ) → ((n : ℕ) → s ≡ gave (bytes n) → n ≤ 260)
+said-short : (s : Said Giving) (room : List ℕ) → ((n : ℕ) → s ≡ gave (bytes n) → n ≤ 260)
     → saidLine (plain letterP) s (take 260 room) ≡ saidLine (plain letterP) s room
 unfolding saidLine
 said-short (refused n) room h = refl
@@ -74,6 +74,6 @@ said-short (gave done) room h = refl
 said-short (gave (bytes n)) room h = ap (bytesLine letterP) (take-take n 260 room (h n refl))
 said-short (gave (reads w)) room h = refl
 
-pub packet-said : (w : World) (b room after : List ℕ) (s : Said Given) → step w (packet b room) .told .said ≡ s
+pub packet-said : (w : World) (b room after : List ℕ) (s : Said Giving) → step w (packet b room) .told .said ≡ s
     → saidLine (plain letterP) s (take 260 after) ≡ saidLine (plain letterP) s after
 packet-said w b room after s e = said-short s after (λ n h. packet-short w b room n (e ∙ h))

@@ -18,16 +18,16 @@ use Rattle.rules.specs.declared.Worded.{Worded}
 use Rattle.rules.specs.declared.Passed.{Passed}
 use Rattle.rules.specs.declared.Framed.{Framed}
 use Rattle.rules.specs.State.{withWords, withStores, withTables, storeIn}
-use Rattle.rules.specs.Refusals.{Given, done, answerSaid}
+use Rattle.rules.specs.Refusals.{Giving, done, answerSaid}
 use Rattle.rules.specs.Families.{WordCall, PipeCall}
 use Rattle.rules.specs.Families as family
 use Rattle.rules.specs.Calls.{Roomed, roomed, powerCall, packetCall, deadlineCall, putCall, wordCall, pipeCall, samplesCall}
 use Rattle.rules.specs.World.{World, world, told, Stepped, stepped, overTables, overRoom, overNothing, overStore, overDesk, overSent, overFrames, framesIn, step}
 use Rattle.lines.specs.Letters.{letterP, letterD, letterB, letterC, letterW, letterR, letterS, letterA, letterI, letterT, letterZ}
-use Rattle.lines.specs.Asked.{Asked, packet, deadline, put, command, dataIn, dataOut, status, samples, pipeByte, pipeTimeout, power, other}
+use Rattle.lines.specs.Asked.{Asked, packet, deadline, put, command, dataIn, dataOut, status, samples, askByte, askTimeout, power, other}
 use Rattle.items.specs.Characters.{question}
 use Rattle.answers.specs.Answers.{plain, listing, formOf, saidLine, lineText}
-use Rattle.line_calls.specs.declared.Spoken.{Spoken}
+use Rattle.line_calls.specs.declared.LineSaid.{LineSaid}
 use Rattle.line_calls.specs.Calls.{callOf, lineStep, roomAfter}
 use Rattle.line_calls.specs.Memory.{Memory, memory, lentIn}
 use Rattle.line_calls.specs.Promise.{Printed, stepOf, LineAnswered}
@@ -48,7 +48,7 @@ abbrev pub withLoadAt : List ℕ → Memory → Memory
 withLoadAt load m = memory (m .room) (m .priority) (m .ordinary) (m .five) (m .six) (m .seven) load
 
 -- the step, what it tells, and what is printed
-answered-by : (a : Asked) (p : Pod) (m m′ : Memory) (r : Spoken) (o o′ : List ℕ) (at : ℕ) (s : Said Given) (bs text : List ℕ) (q : Pod)
+answered-by : (a : Asked) (p : Pod) (m m′ : Memory) (r : LineSaid) (o o′ : List ℕ) (at : ℕ) (s : Said Giving) (bs text : List ℕ) (q : Pod)
     → stepOf a p m ≡ stepped s bs q (lentIn m′) → m′ .room ≡ roomAfter a (m .room) (told s bs) → text ≡ lineText a (told s bs)
     → r .pod ≡ q → Printed text at (r .at) o o′ → LineAnswered a p m m′ r o o′ at
 answered-by a p m m′ r o o′ at s bs text q e er et eq w =
@@ -58,7 +58,7 @@ answered-by a p m m′ r o o′ at s bs text q e er et eq w =
       printed = subst (λ (x : List ℕ). Printed x at (r .at) o o′) (et ∙ ap (λ (x : Stepped). lineText a (x .told)) (sym e)) w;
     }
 
-module _ (p : Pod) (m : Memory) (r : Spoken) (o o′ : List ℕ) (at : ℕ) where
+module _ (p : Pod) (m : Memory) (r : LineSaid) (o o′ : List ℕ) (at : ℕ) where
   abbrev w : World
   w = world p (lentIn m)
 
@@ -111,17 +111,17 @@ module _ (p : Pod) (m : Memory) (r : Spoken) (o o′ : List ℕ) (at : ℕ) wher
   module _ (c : Passed) (q : r .pod ≡ c .pod) where
     pub by-byte : (b : ℕ) → out (answerSaid (c .answer)) (c .pod) (c .sent) ≡ pipeCall (family.byte b) p
         → Printed (saidLine (listing letterI) (answerSaid (c .answer)) (sentBytes (c .sent))) at (r .at) o o′
-        → LineAnswered (pipeByte b) p m m r o o′ at
+        → LineAnswered (askByte b) p m m r o o′ at
     unfolding lineStep callOf step lineText formOf roomAfter
     by-byte b e t =
-        answered-by (pipeByte b) p m m r o o′ at (answerSaid (c .answer)) (sentBytes (c .sent)) _ (c .pod) (ap (λ x. overSent x w) (sym e)) refl refl q t
+        answered-by (askByte b) p m m r o o′ at (answerSaid (c .answer)) (sentBytes (c .sent)) _ (c .pod) (ap (λ x. overSent x w) (sym e)) refl refl q t
 
     pub by-timeout : out (answerSaid (c .answer)) (c .pod) (c .sent) ≡ pipeCall family.timeout p
         → Printed (saidLine (listing letterT) (answerSaid (c .answer)) (sentBytes (c .sent))) at (r .at) o o′
-        → LineAnswered pipeTimeout p m m r o o′ at
+        → LineAnswered askTimeout p m m r o o′ at
     unfolding lineStep callOf step lineText formOf roomAfter
     by-timeout e t =
-        answered-by pipeTimeout p m m r o o′ at (answerSaid (c .answer)) (sentBytes (c .sent)) _ (c .pod) (ap (λ x. overSent x w) (sym e)) refl refl q t
+        answered-by askTimeout p m m r o o′ at (answerSaid (c .answer)) (sentBytes (c .sent)) _ (c .pod) (ap (λ x. overSent x w) (sym e)) refl refl q t
 
   -- the four table words
   module _ (c : Worded) (q : r .pod ≡ withWords (c .words) p) where

@@ -11,7 +11,7 @@ use Rattle.rules.specs.World.{World, Call, Stepped, Told, stepped, step}
 use Rattle.rules.specs.World as rules
 use Rattle.lines.specs.declared.Line.{Line}
 use Rattle.lines.specs.declared.Line.the-variants as line
-use Rattle.lines.specs.Asked.{Asked, packet, deadline, put, command, dataIn, dataOut, status, samples, pipeByte, pipeTimeout, power, other}
+use Rattle.lines.specs.Asked.{Asked, packet, deadline, put, command, dataIn, dataOut, status, samples, askByte, askTimeout, power, other}
 
 -- what a line that was read asks: its bytes and words are the first ones of those that lie in lent memory
 unfoldable pub heardLine : Line → List ℕ → List ℕ → Asked
@@ -23,8 +23,8 @@ heardLine (line.Data w) bs ws = dataIn w
 heardLine line.Read bs ws = dataOut
 heardLine line.Status bs ws = status
 heardLine (line.Samples k n) bs ws = samples k (take n ws)
-heardLine (line.Byte b) bs ws = pipeByte b
-heardLine line.Timeout bs ws = pipeTimeout
+heardLine (line.Byte b) bs ws = askByte b
+heardLine line.Timeout bs ws = askTimeout
 heardLine line.Power bs ws = power
 heardLine line.Other bs ws = other
 
@@ -38,8 +38,8 @@ callOf (dataIn w) room = some (rules.word (family.dataIn w))
 callOf dataOut room = some (rules.word family.dataOut)
 callOf status room = some (rules.word family.status)
 callOf (samples k ws) room = some (rules.samples k ws)
-callOf (pipeByte b) room = some (rules.pipe (family.byte b))
-callOf pipeTimeout room = some (rules.pipe family.timeout)
+callOf (askByte b) room = some (rules.pipe (family.byte b))
+callOf askTimeout room = some (rules.pipe family.timeout)
 callOf power room = some rules.power
 callOf other room = none
 
@@ -61,7 +61,7 @@ roomAfter (dataIn w) room t = room
 roomAfter dataOut room t = room
 roomAfter status room t = room
 roomAfter (samples k ws) room t = room
-roomAfter (pipeByte b) room t = room
-roomAfter pipeTimeout room t = room
+roomAfter (askByte b) room t = room
+roomAfter askTimeout room t = room
 roomAfter power room t = room
 roomAfter other room t = room

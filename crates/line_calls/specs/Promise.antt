@@ -10,7 +10,7 @@ use Rattle.rules.specs.World.{Stepped, world}
 use Rattle.lines.specs.Asked.{Asked}
 use Rattle.answers.specs.Answers.{lineText}
 use Rattle.line_calls.specs.declared.Sizes.{Sizes}
-use Rattle.line_calls.specs.declared.Spoken.{Spoken}
+use Rattle.line_calls.specs.declared.LineSaid.{LineSaid}
 use Rattle.line_calls.specs.Calls.{lineStep, roomAfter}
 use Rattle.line_calls.specs.Memory.{Memory, lentIn, lentAt, behind}
 
@@ -25,12 +25,12 @@ abbrev pub stepOf : Asked → Pod → Memory → Stepped
 stepOf a p m = lineStep a (m .room) (world p (lentIn m))
 
 -- the world after a line, the answer room and the text printed are those of the rules
-pub record LineAnswered (a : Asked) (p : Pod) (m m′ : Memory) (r : Spoken) (o o′ : List ℕ) (at : ℕ) : Type 0 where
+pub record LineAnswered (a : Asked) (p : Pod) (m m′ : Memory) (r : LineSaid) (o o′ : List ℕ) (at : ℕ) : Type 0 where
   pub world : world (r .pod) (lentIn m′) ≡ stepOf a p m .world
   pub room : m′ .room ≡ roomAfter a (m .room) (stepOf a p m .told)
   pub printed : Printed (lineText a (stepOf a p m .told)) at (r .at) o o′
 
 -- and so they are where each thing is lent at a size; what lies behind it stays
-pub record LentAnswered (a : Asked) (p : Pod) (s : Sizes) (m m′ : Memory) (r : Spoken) (o o′ : List ℕ) (at : ℕ) : Type 0 where
+pub record LentAnswered (a : Asked) (p : Pod) (s : Sizes) (m m′ : Memory) (r : LineSaid) (o o′ : List ℕ) (at : ℕ) : Type 0 where
   pub answered : LineAnswered a p (lentAt s m) (lentAt s m′) r o o′ at
   pub rest : behind s m′ ≡ behind s m

@@ -1,5 +1,5 @@
 // A line's call, over what it is lent.
-use crate::Spoken;
+use crate::LineSaid;
 use crate::speaking::framed;
 use crate::speaking::passed;
 use crate::speaking::replied;
@@ -32,7 +32,7 @@ pub fn reply(
     load: &mut [u16; 64],
     out: &mut [u8],
     at: usize,
-) -> Spoken
+) -> LineSaid
     requires { ⌜ at + 784 ≤ length (now out) ⌝ }
     ensures { λ r. ⌜ LineAnswered (heardLine line (now (bytes .entry)) (now (words .entry))) pod (memory (now (room .entry)) (now (priority .entry)) (now (ordinary .entry)) (now (five .entry)) (now (six .entry)) (now (seven .entry)) (now (load .entry))) (memory (now (room .exit)) (now (priority .exit)) (now (ordinary .exit)) (now (five .exit)) (now (six .exit)) (now (seven .exit)) (now (load .exit))) r (now (out .entry)) (now (out .exit)) at ⌝ }
 {

@@ -1,6 +1,6 @@
 // What is lent to a line's call, at its sizes.
+use crate::LineSaid;
 use crate::Sizes;
-use crate::Spoken;
 use crate::calling::reply;
 use lines::Line;
 use rules::Pod;
@@ -41,7 +41,7 @@ pub fn answer(
     load: &mut [u16; 64],
     out: &mut [u8],
     at: usize,
-) -> Spoken
+) -> LineSaid
     requires { ⌜ SizesFit sizes (memory (now room) (now priority) (now ordinary) (now five) (now six) (now seven) (now load)) ⌝ }
     requires { ⌜ at + 784 ≤ length (now out) ⌝ }
     ensures { λ r. ⌜ LentAnswered (heardLine line (now (bytes .entry)) (now (words .entry))) pod sizes (memory (now (room .entry)) (now (priority .entry)) (now (ordinary .entry)) (now (five .entry)) (now (six .entry)) (now (seven .entry)) (now (load .entry))) (memory (now (room .exit)) (now (priority .exit)) (now (ordinary .exit)) (now (five .exit)) (now (six .exit)) (now (seven .exit)) (now (load .exit))) r (now (out .entry)) (now (out .exit)) at ⌝ }

@@ -8,7 +8,7 @@ pub use lending::right_sizes;
 use rules::Pod;
 
 // The state after a line, and where the output stands.
-pub struct Spoken {
+pub struct LineSaid {
     pub pod: Pod,
     pub at: usize,
 }

@@ -11,7 +11,7 @@ use lib.Seq.{sets, sets-eq, take-at}
 use Rattle.rows.proofs.Bool.{split, by-test}
 use Rattle.blocks.specs.declared.Store.{Store}
 use Rattle.blocks.specs.declared.Store.the-variants.{Priority, Ordinary}
-use Rattle.items.specs.Text.{Reading, bytesIn, wordsIn, byteItem, wordItem}
+use Rattle.items.specs.Text.{ItemsRead, bytesIn, wordsIn, byteItem, wordItem}
 use Rattle.lines.specs.Letters.{letterP, letterD, letterB, letterC, letterW, letterR, letterS, letterA, letterI, letterT, letterZ, smallP, smallO}
 use Rattle.lines.specs.Asked.{Asked, Asking, packet, put, samples, other, packing, putting, sampling, isPut, oneByte, packetIn, putIn, samplesIn, bareAsked, wordAsked, byteAsked, shortAsked, lineOf, sayLine}
 use Rattle.line_calls.specs.Calls.{heardLine}
@@ -38,19 +38,19 @@ words-most (s ∷ a ∷ b ∷ c ∷ []) = omega arith
 words-most (s ∷ a ∷ b ∷ c ∷ d ∷ rest) = split (ltb (wordItem s a b c d) 65536) (λ e. rw e (omega (arith, words-most rest))) (λ e. rw e (omega arith))
 
 -- a run of bytes, whole or not
-packing-heard : (r : Reading) (bs ws : List ℕ) → length (r .values) ≤ length bs
+packing-heard : (r : ItemsRead) (bs ws : List ℕ) → length (r .values) ≤ length bs
     → heardLine (sayLine (packing r .asked)) (sets bs 0 (r .values)) ws ≡ packing r .asked
 unfolding heardLine sayLine
 packing-heard r bs ws h =
     by-test (λ (a : Asked). heardLine (sayLine a) (sets bs 0 (r .values)) ws ≡ a) (r .whole) (λ _. ap packet (stored (r .values) bs h)) (λ _. refl)
 
-putting-heard : (s : Store) (r : Reading) (bs ws : List ℕ) → length (r .values) ≤ length bs
+putting-heard : (s : Store) (r : ItemsRead) (bs ws : List ℕ) → length (r .values) ≤ length bs
     → heardLine (sayLine (putting s r .asked)) (sets bs 0 (r .values)) ws ≡ putting s r .asked
 unfolding heardLine sayLine
 putting-heard s r bs ws h =
     by-test (λ (a : Asked). heardLine (sayLine a) (sets bs 0 (r .values)) ws ≡ a) (r .whole) (λ _. ap (put s) (stored (r .values) bs h)) (λ _. refl)
 
-sampling-heard : (k : ℕ) (r : Reading) (bs ws : List ℕ) → length (r .values) ≤ length ws
+sampling-heard : (k : ℕ) (r : ItemsRead) (bs ws : List ℕ) → length (r .values) ≤ length ws
     → heardLine (sayLine (sampling k r .asked)) bs (sets ws 0 (r .values)) ≡ sampling k r .asked
 unfolding heardLine sayLine
 sampling-heard k r bs ws h =

@@ -39,7 +39,7 @@ use Rattle.lab_calls.specs.Own.{sizeSet, sizesSet, isShow, Leaves, ownOf, shown
 use Rattle.line_loop.specs.declared.Between.{Between}
 use Rattle.line_loop.specs.declared.Program.{Program}
 use Rattle.line_loop.specs.Lines.{textOf, askingOf, sizesIf, sizesAfter}
-use Rattle.line_loop.specs.Turns.{Within, TextAnswered, own, call, Stand, Answers, FoundAnswered, Turn}
+use Rattle.line_loop.specs.Turns.{Within, TextAnswered, own, call, Stand, AnswersText, FoundAnswered, Turn}
 
 -- the cursor goes on
 pub cut-on : (piece : List ℕ) (c : Cursor) → c .from < length piece → c .from < cutOf piece c .cursor .from
@@ -49,7 +49,7 @@ cut-on piece c h =
     (λ _. by-test (λ (k : Cut). c .from < k .cursor .from) (eqb (endOf piece c) (length piece)) (λ e. omega (arith, eqb-true (endOf piece c) (length piece) e)) (λ _. omega arith))
 
 module _ (p : Program) (piece : List ℕ) (s t : Stand) where
-  found-answered : (f : Found) → OneOf (0 ∷ 1 ∷ 2 ∷ []) (tagOf found.the-type f) → Answers p (textOf f piece (t .line)) s t
+  found-answered : (f : Found) → OneOf (0 ∷ 1 ∷ 2 ∷ []) (tagOf found.the-type f) → AnswersText p (textOf f piece (t .line)) s t
       → FoundAnswered p f piece s t
   found-answered (Here a b) k h = h
   found-answered (Held n) k h = h
@@ -58,7 +58,7 @@ module _ (p : Program) (piece : List ℕ) (s t : Stand) where
 
   module _ (cut : Cut) (e : cut ≡ cutOf piece (s .standing .cursor)) (ec : t .standing .cursor ≡ cut .cursor)
       (el : t .line ≡ heldLine piece (s .standing .cursor) (s .line)) where
-    pub turn-found : OneOf (0 ∷ 1 ∷ 2 ∷ []) (tagOf found.the-type (cut .found)) → Answers p (textOf (cut .found) piece (t .line)) s t
+    pub turn-found : OneOf (0 ∷ 1 ∷ 2 ∷ []) (tagOf found.the-type (cut .found)) → AnswersText p (textOf (cut .found) piece (t .line)) s t
         → Turn p piece s t
     turn-found k h =
         record {

@@ -13,7 +13,7 @@ use Rattle.lines.specs.declared.Found.the-variants.{Here, Held, Long, More}
 use Rattle.lines.specs.Cut.{before, cutOf, heldLine}
 use Rattle.answers.specs.Answers.{lineText}
 use Rattle.line_calls.specs.declared.Sizes.{Sizes}
-use Rattle.line_calls.specs.declared.Spoken.{Spoken}
+use Rattle.line_calls.specs.declared.LineSaid.{LineSaid}
 use Rattle.line_calls.specs.Memory.{Memory, lentAt}
 use Rattle.line_calls.specs.Promise.{stepOf, LentAnswered}
 use Rattle.lab_calls.specs.declared.Noted.{Noted}
@@ -21,7 +21,7 @@ use Rattle.lab_calls.specs.Own.{ownOf, shownIn, withLoad, OwnAnswered}
 use Rattle.line_loop.specs.declared.Program.{Program}
 use Rattle.line_loop.specs.declared.Between.{Between}
 use Rattle.line_loop.specs.declared.Standing.{Standing}
-use Rattle.line_loop.specs.declared.Desk.{Desk}
+use Rattle.line_loop.specs.declared.Reader.{Reader}
 use Rattle.line_loop.specs.Lines.{textOf, askingOf, ownIn, sizesAfter}
 
 -- no size is over that of the loop's arrays
@@ -33,7 +33,7 @@ pub record Within (s : Sizes) : Type 0 where
   pub six : s .six ≤ 1152
   pub seven : s .seven ≤ 1088
 
-abbrev pub spoken : Between → Spoken
+abbrev pub spoken : Between → LineSaid
 spoken b = record { pod = b .pod; at = b .at }
 
 -- what is printed for a text
@@ -72,14 +72,14 @@ abbrev pub stand : Standing → List ℕ → Memory → List ℕ → Stand
 stand s l m o = record { standing = s; line = l; memory = m; out = o }
 
 -- a text answered from one stand to the next
-abbrev pub Answers : Program → List ℕ → Stand → Stand → Type 0
-Answers p text s t = TextAnswered p text (s .standing .between) (t .standing .between) (s .memory) (t .memory) (s .out) (t .out)
+abbrev pub AnswersText : Program → List ℕ → Stand → Stand → Type 0
+AnswersText p text s t = TextAnswered p text (s .standing .between) (t .standing .between) (s .memory) (t .memory) (s .out) (t .out)
 
 -- a line that was found is answered; where none ends in the piece nothing is
 abbrev pub FoundAnswered : Program → Found → List ℕ → Stand → Stand → Type 0
-FoundAnswered p (Here a b) piece s t = Answers p (textOf (Here a b) piece (t .line)) s t
-FoundAnswered p (Held n) piece s t = Answers p (textOf (Held n) piece (t .line)) s t
-FoundAnswered p Long piece s t = Answers p (textOf Long piece (t .line)) s t
+FoundAnswered p (Here a b) piece s t = AnswersText p (textOf (Here a b) piece (t .line)) s t
+FoundAnswered p (Held n) piece s t = AnswersText p (textOf (Held n) piece (t .line)) s t
+FoundAnswered p Long piece s t = AnswersText p (textOf Long piece (t .line)) s t
 FoundAnswered p More piece s t = (t .standing .between ≡ s .standing .between) × (t .memory ≡ s .memory) × (t .out ≡ s .out)
 
 -- a turn: the next line of the piece, as lines are cut, and its answer
@@ -91,7 +91,7 @@ pub record Turn (p : Program) (piece : List ℕ) (s t : Stand) : Type 0 where
 -- turn after turn
 pub data Turns (p : Program) (piece : List ℕ) : Stand → Stand → Type 0 where
   start : (s : Stand) → Turns p piece s s
-  next : (s t u : Stand) → Turns p piece s t → Turn p piece t u → Turns p piece s u
+  another : (s t u : Stand) → Turns p piece s t → Turn p piece t u → Turns p piece s u
 
 -- the bounds of the loop: the cursor within the piece, no line held that is too long, no size over that of the arrays
 pub record Fine (s : Standing) (have : ℕ) : Type 0 where
@@ -104,7 +104,7 @@ abbrev pub Spent : Standing → ℕ → Type 0
 Spent s have = (ltb (s .cursor .from) have && leb (s .between .at) 64415) ≡ false
 
 -- the loop between two pieces: nothing is gathered
-pub record Ready (d : Desk) : Type 0 where
+pub record Ready (d : Reader) : Type 0 where
   pub fine : Fine (d .standing) (d .have)
   pub piece : d .have ≤ 65536
   pub written : d .standing .between .at ≡ 0

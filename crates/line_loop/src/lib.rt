@@ -30,7 +30,7 @@ pub struct Standing {
 
 // The loop between two pieces: how much of the piece there is, and how many turns are left, none once the input or the output
 // has ended.
-pub struct Desk {
+pub struct Reader {
     pub standing: Standing,
     pub have: usize,
     pub left: u64,

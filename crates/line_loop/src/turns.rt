@@ -1,7 +1,7 @@
 // The loop: lines from standard input, answers to standard output, both in large pieces.
 use crate::Between;
-use crate::Desk;
 use crate::Program;
+use crate::Reader;
 use crate::Standing;
 use crate::answering::answered;
 use crate::answering::gather;
@@ -23,7 +23,7 @@ fn flush(out: &[u8; 65536], at: usize) -> bool {
 }
 
 // The desk with nothing gathered.
-fn emptied(cursor: Cursor, between: Between, have: usize, left: u64) -> Desk
+fn emptied(cursor: Cursor, between: Between, have: usize, left: u64) -> Reader
     requires { ⌜ (cursor .from ≤ have) × (cursor .held ≤ 196607) × (have ≤ 65536) × Within (between .sizes) ⌝ }
     ensures { λ r. ⌜ Ready r ⌝ }
     ensures { λ r. ⌜ r .left ≡ left ⌝ }
@@ -33,7 +33,7 @@ fn emptied(cursor: Cursor, between: Between, have: usize, left: u64) -> Desk
     let at = 0;
     let between = Between { pod, sizes, at };
     let standing = Standing { cursor, between };
-    Desk {
+    Reader {
         standing,
         have,
         left,
@@ -56,7 +56,7 @@ fn fresh(five: &mut [u16], six: &mut [u16], seven: &mut [u16]) -> Pod
 }
 
 // The start: nothing read and nothing gathered.
-fn start(five: &mut [u16; 1088], six: &mut [u16; 1152], seven: &mut [u16; 1088]) -> Desk
+fn start(five: &mut [u16; 1088], six: &mut [u16; 1152], seven: &mut [u16; 1088]) -> Reader
     ensures { λ r. ⌜ Ready r ⌝ }
 {
     let pod = fresh(five, six, seven);
@@ -74,7 +74,7 @@ fn turn(
     left: u64,
     piece: &mut [u8; 65536],
     out: &[u8; 65536],
-) -> Desk
+) -> Reader
     requires { ⌜ (Fine standing have) × (have ≤ 65536) ⌝ }
     ensures { λ r. ⌜ (Ready r) × (r .left ≤ left) ⌝ }
 {

@@ -14,7 +14,7 @@ use Rattle.blocks.specs.declared.Store.the-variants.{Priority, Ordinary}
 use Rattle.items.specs.declared.Items.{Items}
 use Rattle.lines.specs.declared.Line.{Line}
 use Rattle.lines.specs.declared.Line.the-variants.{Packet, Put, Samples, Other}
-use Rattle.items.specs.Text.{Reading, bytesIn, wordsIn, itemsOf}
+use Rattle.items.specs.Text.{ItemsRead, bytesIn, wordsIn, itemsOf}
 use Rattle.lines.specs.Asked.{Asked, packet, put, samples, Asking, unasked, wholly, oneByte, packing, packetIn, isPut, putting, putIn, sampling, samplesIn, bareAsked, shortAsked, lineOf, sayLine, counted}
 use Rattle.rows.proofs.Bool.{split}
 
@@ -28,12 +28,12 @@ pub the-rest : (t : List ℕ) (k : ℕ) → take (length t - k) (drop k t) ≡ d
 the-rest t k = take-all (length t - k) (drop k t) (omega (arith, length-drop k t))
 
 -- a run of items that was read is the line with its count
-counted-is : (r : Reading) (f : List ℕ → Asked) (g : ℕ → Line) → ((vs : List ℕ) → sayLine (f vs) ≡ g (length vs))
+counted-is : (r : ItemsRead) (f : List ℕ → Asked) (g : ℕ → Line) → ((vs : List ℕ) → sayLine (f vs) ≡ g (length vs))
     → counted (itemsOf r) g ≡ sayLine (wholly r f)
 unfolding counted itemsOf sayLine
 counted-is r f g e = split (r .whole) (λ w. rw w (sym (e (r .values)))) (λ w. rw w)
 
-read-as : (r : Reading) (f : List ℕ → Asked) (g : ℕ → Line) (i : Items) (x : Line) → ((vs : List ℕ) → sayLine (f vs) ≡ g (length vs))
+read-as : (r : ItemsRead) (f : List ℕ → Asked) (g : ℕ → Line) (i : Items) (x : Line) → ((vs : List ℕ) → sayLine (f vs) ≡ g (length vs))
     → i ≡ itemsOf r → x ≡ counted i g → x ≡ sayLine (wholly r f)
 read-as r f g i x e ei ex = ex ∙ ap (λ (j : Items). counted j g) ei ∙ counted-is r f g e
 
@@ -98,7 +98,7 @@ pub put-ordinary : (t : List ℕ) → getD t 1 0 ≡ 32 → getD t 2 0 ≡ 111 �
 unfolding putIn
 put-ordinary t s e = rw (s, e)
 
-pub put-is : (s : Store) (t l k : List ℕ) (r : Reading) (i : Items) (x : Line) → putIn t ≡ putting s r
+pub put-is : (s : Store) (t l k : List ℕ) (r : ItemsRead) (i : Items) (x : Line) → putIn t ≡ putting s r
     → i ≡ itemsOf r → k ≡ sets l 0 (r .values) → x ≡ counted i (Put s) → Heard (putIn t .asked) (putIn t .bytes) x l k
 put-is s t l k r i x e ei ek ex = rw e (read-as r (put s) (Put s) i x (put-said s) ei ex, ek)
 
@@ -121,7 +121,7 @@ samples-short t h =
     let z : oneByte (take 3 (drop 1 t)) ≡ 256 = not-three (take 3 (drop 1 t)) (λ e. omega (arith, length-take 3 (drop 1 t), length-drop 1 t)) in
     samples-no t (omega arith)
 
-pub samples-is : (n : ℕ) (t l k : List ℕ) (r : Reading) (i : Items) (x : Line) → samplesIn t ≡ sampling n r
+pub samples-is : (n : ℕ) (t l k : List ℕ) (r : ItemsRead) (i : Items) (x : Line) → samplesIn t ≡ sampling n r
     → i ≡ itemsOf r → k ≡ sets l 0 (r .values) → x ≡ counted i (Samples n) → Heard (samplesIn t .asked) (samplesIn t .words) x l k
 samples-is n t l k r i x e ei ek ex = rw e (read-as r (samples n) (Samples n) i x (samples-said n) ei ex, ek)
 

@@ -9,7 +9,7 @@ use borrow.Author.Tests.{lt-ltb, eqb-true}
 use Rattle.hex.specs.Digits.{byteDigits, wordDigits}
 use Rattle.blocks.specs.declared.Store.the-variants.{Priority, Ordinary}
 use Rattle.items.specs.Text.{spell, bytesIn}
-use Rattle.lines.specs.Asked.{packet, deadline, put, command, dataIn, dataOut, status, samples, pipeByte, pipeTimeout, power, other, asking, oneByte, oneWord, packetIn, putIn, samplesIn, bareAsked, wordAsked, byteAsked, shortAsked, lineOf}
+use Rattle.lines.specs.Asked.{packet, deadline, put, command, dataIn, dataOut, status, samples, askByte, askTimeout, power, other, asking, oneByte, oneWord, packetIn, putIn, samplesIn, bareAsked, wordAsked, byteAsked, shortAsked, lineOf}
 use Rattle.rows.proofs.Bool.{split}
 use Rattle.items.proofs.Laws.{Under, spellWords, byte-back, word-back, bytes-back, words-back, bytes-only}
 
@@ -63,7 +63,7 @@ unfolding lineOf samplesIn oneByte
 samples-form n ws h u = rw (byte-back n h, lt-ltb n 256 h, words-back ws u)
 
 -- `I` and a byte
-pub byte-form : (b : ℕ) → b < 256 → lineOf (73 ∷ 32 ∷ byteDigits b) ≡ asking (pipeByte b) [] []
+pub byte-form : (b : ℕ) → b < 256 → lineOf (73 ∷ 32 ∷ byteDigits b) ≡ asking (askByte b) [] []
 unfolding lineOf shortAsked oneByte byteAsked
 byte-form b h = rw (byte-back b h, lt-ltb b 256 h)
 
@@ -80,7 +80,7 @@ pub status-form : lineOf (83 ∷ []) ≡ asking status [] []
 unfolding lineOf shortAsked bareAsked
 status-form = refl
 
-pub timeout-form : lineOf (84 ∷ []) ≡ asking pipeTimeout [] []
+pub timeout-form : lineOf (84 ∷ []) ≡ asking askTimeout [] []
 unfolding lineOf shortAsked bareAsked
 timeout-form = refl
 

@@ -13,7 +13,7 @@ use Rattle.lines.specs.Letters.{letterP, letterD, letterB, letterC, lett
 use Rattle.lines.specs.declared.Line.{Line}
 use Rattle.lines.specs.declared.Line.the-variants.{Packet, Deadline, Put, Command, Data, Read, Status, Samples, Byte, Timeout, Power, Other}
 use Rattle.items.specs.Characters.{space}
-use Rattle.items.specs.Text.{Reading, bytesIn, wordsIn, byteItem, wordItem}
+use Rattle.items.specs.Text.{ItemsRead, bytesIn, wordsIn, byteItem, wordItem}
 
 -- a call with what it is given, a case for each line of the table; and every other line
 pub data Asked : Type 0 where
@@ -25,8 +25,8 @@ pub data Asked : Type 0 where
   dataOut : Asked
   status : Asked
   samples : ℕ → List ℕ → Asked
-  pipeByte : ℕ → Asked
-  pipeTimeout : Asked
+  askByte : ℕ → Asked
+  askTimeout : Asked
   power : Asked
   other : Asked
 
@@ -44,7 +44,7 @@ abbrev pub unasked : Asking
 unasked = asking other [] []
 
 -- a run of items that has to be whole
-abbrev pub wholly : Reading → (List ℕ → Asked) → Asked
+abbrev pub wholly : ItemsRead → (List ℕ → Asked) → Asked
 wholly r f = cond (r .whole) (f (r .values)) other
 
 -- exactly one byte, 256 where it is not; exactly one word, 65536 where it is not
@@ -55,7 +55,7 @@ unfoldable pub oneWord : List ℕ → ℕ
 oneWord t = cond (eqb (length t) 5) (wordItem (getD t 0 0) (getD t 1 0) (getD t 2 0) (getD t 3 0) (getD t 4 0)) 65536
 
 -- `P` bytes. A line of any other letter is none
-abbrev pub packing : Reading → Asking
+abbrev pub packing : ItemsRead → Asking
 packing r = asking (wholly r packet) (r .values) []
 
 unfoldable pub packetIn : List ℕ → Asking
@@ -65,7 +65,7 @@ packetIn t = cond (eqb (getD t 0 0) letterP) (packing (bytesIn (drop 1 t))) unas
 abbrev pub isPut : ℕ → List ℕ → Bool
 isPut c t = eqb (getD t 1 0) space && eqb (getD t 2 0) c
 
-abbrev pub putting : Store → Reading → Asking
+abbrev pub putting : Store → ItemsRead → Asking
 putting s r = asking (wholly r (put s)) (r .values) []
 
 unfoldable pub putIn : List ℕ → Asking
@@ -75,7 +75,7 @@ putIn t =
     unasked)
 
 -- `A` byte words
-abbrev pub sampling : ℕ → Reading → Asking
+abbrev pub sampling : ℕ → ItemsRead → Asking
 sampling check r = asking (wholly r (samples check)) [] (r .values)
 
 unfoldable pub samplesIn : List ℕ → Asking
@@ -89,7 +89,7 @@ bareAsked c =
     cond (eqb c letterD) deadline
     (cond (eqb c letterR) dataOut
     (cond (eqb c letterS) status
-    (cond (eqb c letterT) pipeTimeout
+    (cond (eqb c letterT) askTimeout
     (cond (eqb c letterZ) power
     other))))
 
@@ -99,7 +99,7 @@ wordAsked c w = cond (ltb w 65536) (cond (eqb c letterC) (command w) (dataIn w))
 
 -- `I` byte
 unfoldable pub byteAsked : ℕ → Asked
-byteAsked b = cond (ltb b 256) (pipeByte b) other
+byteAsked b = cond (ltb b 256) (askByte b) other
 
 -- the letters with one item behind them, and the bare letters
 unfoldable pub shortAsked : ℕ → List ℕ → Asked
@@ -126,8 +126,8 @@ sayLine (dataIn w) = Data w
 sayLine dataOut = Read
 sayLine status = Status
 sayLine (samples k ws) = Samples k (length ws)
-sayLine (pipeByte b) = Byte b
-sayLine pipeTimeout = Timeout
+sayLine (askByte b) = Byte b
+sayLine askTimeout = Timeout
 sayLine power = Power
 sayLine other = Other
 

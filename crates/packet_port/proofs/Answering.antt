@@ -30,7 +30,7 @@ use Rattle.rules.specs.Calls.{roomed, replied, replyBytes, spokenBytes, written
 use Rattle.rules.proofs.Inside.{PodIn, in-pod, pod-in, in-shut}
 use Rattle.rules.proofs.Sound.{command-in}
 use Rattle.commands.specs.Does.{Does}
-use Rattle.packet_port.specs.Port.{Ready, Waits}
+use Rattle.packet_port.specs.Port.{RoomReady, Waits}
 
 -- a command's packet is not empty
 pub asked-some : (b : List ℕ) (c : Command) → packetRead b ≡ Asked c → 0 < length b
@@ -77,7 +77,7 @@ pub stores-in : (s : Store) (a b : List ℕ) (l : Lent) → storeIn s (withStore
 stores-in Priority a b l = refl
 stores-in Ordinary a b l = refl
 
-pub block-whole : (s : Store) {room a b : List ℕ} {p : Pod} → Ready room a b p → (r : Ring) → soundRing (capacityOf s) r ≡ true → 0 < r .waiting
+pub block-whole : (s : Store) {room a b : List ℕ} {p : Pod} → RoomReady room a b p → (r : Ring) → soundRing (capacityOf s) r ≡ true → 0 < r .waiting
     → length (oldestOf (capacityOf s) r (storeOf s a b)) ≡ 256
 block-whole Priority {a = a} h r ok w = oldest-whole 16 r a ok (h .priority) w
 block-whole Ordinary {b = b} h r ok w = oldest-whole 128 r b ok (h .ordinary) w

@@ -13,10 +13,10 @@ use Rattle.rules.specs.declared.Pod.{Pod}
 use Rattle.rules.specs.State.{Lent, withStores, withTables}
 use Rattle.rules.specs.Calls.{roomed, packetRows}
 use Rattle.gates.proofs.Fits.{Sized, store-length, table-lengths}
-use Rattle.packet_port.specs.Port.{Ready}
+use Rattle.packet_port.specs.Port.{RoomReady}
 
 pub packet-fits : (room a b : List ℕ) (t : Three) (l : Lent) (p : Pod) → Clear (packetRows (roomed room (withTables t (withStores a b l))) p)
-    → Ready room a b p × Sized t
+    → RoomReady room a b p × Sized t
 packet-fits room a b t l p (past long (past size (past ok none))) =
     let all = not-false size in
     let some = and-right (storeSized Priority a) (storeSized Ordinary b && tablesSized t) all in (

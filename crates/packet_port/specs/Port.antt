@@ -18,7 +18,7 @@ use Rattle.rules.specs.Calls.{Spoken, roomed, answered}
 use Rattle.packet_port.specs.declared.port.Replied.{Replied}
 
 -- no row refuses the packet: a room for every answer, the stores of their exact sizes, a sound pod
-pub record Ready (r a b : List ℕ) (p : Pod) : Type 0 where
+pub record RoomReady (r a b : List ℕ) (p : Pod) : Type 0 where
   pub room : 260 ≤ length r
   pub priority : length a ≡ capacityOf Priority * 256
   pub ordinary : length b ≡ capacityOf Ordinary * 256
@@ -29,6 +29,6 @@ abbrev pub Waits : Said Meant → Pod → Type 0
 Waits m p = (s : Store) → m ≡ gave (block s) → 0 < ringOf s p .waiting
 
 -- what is spoken is answered, in the room and in what is lent
-abbrev pub Answers : Replied → Lent → List ℕ → List ℕ → Out Spoken Pod Lent → Type 0
-Answers r l before after o =
+abbrev pub PortAnswers : Replied → Lent → List ℕ → List ℕ → Out Spoken Pod Lent → Type 0
+PortAnswers r l before after o =
     out (gave (bytes (r .count))) (r .pod) (roomed after (cond (r .restart) (withTables starts l) l)) ≡ given (answered o before)

@@ -26,7 +26,7 @@ ghost use Rattle.rules.specs.Refusals.{answerSaid};
 ghost use Rattle.rules.specs.Obey.{replySaid, shut, obeyOf};
 ghost use Rattle.rules.specs.Calls.{roomed, replied, packetHeard, replyBytes, packetRows, packetCall};
 ghost use Rattle.gates.specs.Gates.{Gated};
-ghost use Rattle.packet_port.specs.Port.{Ready, Waits, Answers};
+ghost use Rattle.packet_port.specs.Port.{RoomReady, Waits, PortAnswers};
 
 // The answer's length, the next state, and whether the tables go to their starts.
 struct Replied {
@@ -44,7 +44,7 @@ fn write_reply<'a>(
     priority: &'a [u8],
     ordinary: &'a [u8],
 ) -> usize
-    requires { ⌜ (Ready (now room) (now priority) (now ordinary) pod) × (Waits (replySaid reply) pod) ⌝ }
+    requires { ⌜ (RoomReady (now room) (now priority) (now ordinary) pod) × (Waits (replySaid reply) pod) ⌝ }
     ensures { λ r. ⌜ ((l : Lent) → Written (replyBytes first (replySaid reply) pod (withStores (now (priority .entry)) (now (ordinary .entry)) l)) (now (room .entry)) (now (room .exit)) r) ⌝ }
 {
     match reply {
@@ -68,8 +68,8 @@ fn asked<'a>(
     priority: &'a [u8],
     ordinary: &'a [u8],
 ) -> Replied
-    requires { ⌜ Ready (now room) (now priority) (now ordinary) pod ⌝ }
-    ensures { λ r. ⌜ ((l : Lent) → Answers r (withStores (now (priority .entry)) (now (ordinary .entry)) l) (now (room .entry)) (now (room .exit)) (replied first (obeyOf command (withStores (now (priority .entry)) (now (ordinary .entry)) l) (shut pod)))) ⌝ }
+    requires { ⌜ RoomReady (now room) (now priority) (now ordinary) pod ⌝ }
+    ensures { λ r. ⌜ ((l : Lent) → PortAnswers r (withStores (now (priority .entry)) (now (ordinary .entry)) l) (now (room .entry)) (now (room .exit)) (replied first (obeyOf command (withStores (now (priority .entry)) (now (ordinary .entry)) l) (shut pod)))) ⌝ }
 {
     let obeyed = obey(shut(pod), command);
     let reply = obeyed.reply;
@@ -90,8 +90,8 @@ fn hear<'a>(
     priority: &'a [u8],
     ordinary: &'a [u8],
 ) -> Replied
-    requires { ⌜ Ready (now room) (now priority) (now ordinary) pod ⌝ }
-    ensures { λ r. ⌜ ((l : Lent) → Answers r (withStores (now (priority .entry)) (now (ordinary .entry)) l) (now (room .entry)) (now (room .exit)) (packetHeard (packetRead (now (bytes .entry))) (withStores (now (priority .entry)) (now (ordinary .entry)) l) pod)) ⌝ }
+    requires { ⌜ RoomReady (now room) (now priority) (now ordinary) pod ⌝ }
+    ensures { λ r. ⌜ ((l : Lent) → PortAnswers r (withStores (now (priority .entry)) (now (ordinary .entry)) l) (now (room .entry)) (now (room .exit)) (packetHeard (packetRead (now (bytes .entry))) (withStores (now (priority .entry)) (now (ordinary .entry)) l) pod)) ⌝ }
 {
     let parsed = packets::read(bytes);
     match parsed {

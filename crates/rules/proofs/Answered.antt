@@ -9,7 +9,7 @@ use Rattle.rows.specs.Rows.{First, Clear, refused, gave, rising}
 use Rattle.rows.proofs.Bool.{never, not-true}
 use Rattle.rows.proofs.Laws.{never-both, first-one, refused-same, gave-not}
 use Rattle.rows.proofs.Lowest.{lowest}
-use Rattle.rules.specs.Refusals.{Given, done}
+use Rattle.rules.specs.Refusals.{Giving, done}
 use Rattle.rules.specs.Families.{command, dataIn, dataOut, status, wordLent, byte, timeout, wordOf, pipeOf}
 use Rattle.rules.specs.World.{World, Call, power, packet, deadline, put, word, pipe, samples, roomOf, Told, Stepped, stepped, isAnswered, isRefused, step, rowsOf}
 use Rattle.rules.specs.Demands.{AlwaysAnswered, LowestFirst, RefusedUnchanged}
@@ -19,7 +19,7 @@ use Rattle.rules.proofs.Happens.{Happens, by-rows, by-power, by-empty, 
 -- how a call ends: refused by its first row that holds, or answered
 pub data Ends (w : World) (c : Call) (s : Stepped) : Type 0 where
   stopped : (n : ℕ) → First n (rowsOf w c) → s ≡ stepped (refused n) (roomOf c) (w .pod) (w .lent) → Ends w c s
-  answered : (g : Given) → Clear (rowsOf w c) → s .told .said ≡ gave g → Ends w c s
+  answered : (g : Giving) → Clear (rowsOf w c) → s .told .said ≡ gave g → Ends w c s
 
 pub ends : {w : World} {c : Call} {s : Stepped} → Happens w c s → Ends w c s
 ends (by-rows c n f) = stopped n f refl

@@ -27,7 +27,7 @@ use Rattle.rules.specs.Obey.{shut, checksOf, doneBy, acknowledgedOf}
 use Rattle.rules.specs.Families.{WordCall, PipeCall, pipeOf}
 use Rattle.rules.specs.Calls.{replyBytes, spokenBytes, answered}
 use Rattle.rules.specs.World.{World, world, Call, packet, put, word, pipe, Stepped, rowsOf}
-use Rattle.rules.specs.History.{Event, nothing, begins, sleeps, updates, writes, opensExchange, closesExchange, hearsAcknowledgement, puts, words, pipes, obeyedAs, succeeded, eventOf}
+use Rattle.rules.specs.History.{Event, nothing, begins, sleeps, updates, writesParameter, opensExchange, closesExchange, hearsAcknowledgement, puts, words, pipes, obeyedAs, succeeded, eventOf}
 use Rattle.rules.proofs.Happens.{Happens, by-rows, by-power, by-empty, by-damage, by-acknowledgement, by-check, by-command, by-deadline, by-put, by-word, by-pipe, by-samples, powering, obeying, putting, wording, piping}
 use Rattle.rules.proofs.Succeeded.{one-succeeds, error-fails, room-at}
 
@@ -51,7 +51,7 @@ pub data Eventful (w : World) : Event → World → Type 0 where
   initialised : (f : Fields) → Eventful w (begins true f) (obeyedIn (Initialise f) w)
   slept : w .pod .initialised ≡ true → Eventful w sleeps (obeyedIn Shutdown w)
   updated : (f : Fields) → Eventful w (updates f) (obeyedIn (Update f) w)
-  wrote : (id : ℕ) (v : ℤ) → writeAllowed (w .pod .params) id v ≡ true → Eventful w (writes id v) (obeyedIn (Write id v) w)
+  wrote : (id : ℕ) (v : ℤ) → writeAllowed (w .pod .params) id v ≡ true → Eventful w (writesParameter id v) (obeyedIn (Write id v) w)
   -- a type 2 command: nothing else changes
   began : (x : Exchange) → w .pod .initialised ≡ true → Waits x (w .pod) → Eventful w (opensExchange x) (world (withExchange x (w .pod)) (w .lent))
   closed : Eventful w closesExchange (world (shut (w .pod)) (w .lent))

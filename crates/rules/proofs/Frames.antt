@@ -14,7 +14,7 @@ use Rattle.rows.proofs.Laws.{clear-head, clear-rest}
 use Rattle.pipe.specs.declared.Input.{Input}
 use Rattle.pipe.specs.declared.Pipe.{Pipe}
 use Rattle.pipe.specs.Input.{gatheringOf}
-use Rattle.frames.specs.Fields.{part, frame}
+use Rattle.frames.specs.Fields.{bitsOf, frame}
 use Rattle.frames.specs.Layout.{lines03, lines47, framesOf}
 use Rattle.frames.specs.Samples.{averagesOf, boundedOf}
 use Rattle.frames.proofs.Bytes.{bytes-03, bytes-47}
@@ -47,10 +47,10 @@ frames-bytes a p on check f few counted busy =
     rw (bytes-03 a p on check, bytes-47 a, busy, counted, flag-at (ltb 0 (length (f .gathered))) 128, flag-at on 4, low 1, low 2, low 3, low 5, low 6, low 7, high 1 (omega arith), high 2 (omega arith), high 3 (omega arith), high 5 (omega arith), high 6 (omega arith), high 7 (omega arith))
   where
     -- "low byte, then bits 9 and 8"
-    low : (c : ℕ) → part (getD a c 0) 7 0 ≡ getD a c 0 % 256
+    low : (c : ℕ) → bitsOf (getD a c 0) 7 0 ≡ getD a c 0 % 256
     low c = omega arith
 
-    high : (c : ℕ) → c < 8 → part (getD a c 0) 9 8 ≡ getD a c 0 / 256
+    high : (c : ℕ) → c < 8 → bitsOf (getD a c 0) 9 8 ≡ getD a c 0 / 256
     high c h = omega (arith, few c h)
 
 -- a sample set that is not refused has averages of ten bits

@@ -7,7 +7,7 @@ use mathlib.Core.List.{List, [], _∷_}
 use lib.Dec.{eqb}
 use lib.ListN.{length}
 use borrow.Author.Tests.{eqb-true}
-use Rattle.rows.specs.Rows.{Clear, none, past as clear}
+use Rattle.rows.specs.Rows.{Clear, none, pastOf as clear}
 use Rattle.rows.proofs.Bool.{not-false, and-left, and-right}
 use Rattle.rows.proofs.Laws.{clear-head, clear-rest}
 use Rattle.blocks.specs.declared.Store.the-variants.{Priority, Ordinary}
@@ -24,7 +24,7 @@ use Rattle.rules.specs.Obey.{initialisedPod, checksOf, doneBy}
 use Rattle.rules.specs.Refusals.{allRow, stateRow}
 use Rattle.rules.specs.Calls.{roomed, packetRows, meantBody, replyBytes, spokenBytes, answered}
 use Rattle.rules.specs.World.{World, world, power, packet, answering, Stepped, step, rowsOf, powered}
-use Rattle.rules.specs.Pairs.{Accepts, past}
+use Rattle.rules.specs.Pairs.{Accepts, pastOf}
 use Rattle.rules.specs.Demands.{NoTrace, blank, AsFromPower, NoTracePast}
 use Rattle.rules.proofs.Inside.{in-pod, fresh-in}
 use Rattle.rules.proofs.Happens.{Happens, by-rows, by-power, happens}
@@ -112,4 +112,4 @@ as-from-power f b room w kept x cs =
 
 -- "Take two pods with any two pasts since power-on"
 pub no-trace-past : NoTracePast
-no-trace-past f b room l m ds es kept x y cs = no-trace f b room (past (powered l) ds) (past (powered m) es) kept x y cs
+no-trace-past f b room l m ds es kept x y cs = no-trace f b room (pastOf (powered l) ds) (pastOf (powered m) es) kept x y cs

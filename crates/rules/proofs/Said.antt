@@ -12,7 +12,7 @@ use Rattle.rules.specs.declared.Answer.{Answer}
 use Rattle.rules.specs.declared.Answer.the-variants.{Refused, Done, Length, Word}
 use Rattle.rules.specs.declared.Reply.{Reply}
 use Rattle.rules.specs.declared.Reply.the-variants.{Success, Failure, Report, Value, Block}
-use Rattle.rules.specs.Refusals.{Given, done, bytes, reads, refusalNumber, answerSaid}
+use Rattle.rules.specs.Refusals.{Giving, done, bytes, reads, refusalNumber, answerSaid}
 use Rattle.rules.specs.Obey.{Meant, success, report, value, block, replySaid}
 
 -- what can be had back of what it gives is given once
@@ -39,7 +39,7 @@ refusal-number-one = once refusalNumber refusalOf refusal-back
 
 -- ---- an answer
 
-answerFor : Said Given → Answer
+answerFor : Said Giving → Answer
 answerFor (refused n) = Refused (refusalOf n)
 answerFor (gave done) = Done
 answerFor (gave (bytes n)) = Length n
@@ -84,7 +84,7 @@ each {A} {S} {P} {L} f one a b p q l m h k =
     (one a b (ap (λ (o : Out S P L). o .said) e), ap (λ (o : Out S P L). o .pod) e, ap (λ (o : Out S P L). o .lent) e)
 
 -- for every call, whatever it is lent
-pub decided : {P L : Type 0} (a b : Answer) (p q : P) (l m : L) {x : Out (Said Given) P L} → out (answerSaid a) p l ≡ x → out (answerSaid b) q m ≡ x
+pub decided : {P L : Type 0} (a b : Answer) (p q : P) (l m : L) {x : Out (Said Giving) P L} → out (answerSaid a) p l ≡ x → out (answerSaid b) q m ≡ x
     → (a ≡ b) × (p ≡ q) × (l ≡ m)
 decided = each answerSaid answer-said-one
 

@@ -33,7 +33,7 @@ use Rattle.rules.specs.Refusals.{storeRow, stateRow, blockRow, asleepRow
 use Rattle.rules.specs.Families.{WordCall, command, dataIn, dataOut, status, wordLent, wordOf}
 use Rattle.rules.specs.Calls.{powerCall, replied, packetHeard, meantBody, replyBytes, spokenBytes, answered, packetCall, deadlineCall, shelved, putCall, wordCall, pipeCall, samplesCall}
 use Rattle.rules.specs.World.{World, world, Call, power, packet, deadline, put, word, pipe, samples, Told, Stepped, overTables, overRoom, overNothing, overStore, overDesk, overSent, overFrames, step, next, Point, tells}
-use Rattle.rules.specs.Pairs.{Sizes, sizesIn}
+use Rattle.rules.specs.Pairs.{SizesAlike, sizesIn}
 use Rattle.rules.proofs.Stores.{store-same}
 use Rattle.rules.proofs.Happens.{wording}
 use Rattle.rules.proofs.Inside.{pod-in, off-closed, off-still}
@@ -59,12 +59,12 @@ pub data TellAlike (s r : Stepped) : Type 0 where
 
 module _ (l m : Lent) (sizes : sizesIn l ≡ sizesIn m) where
   store-sizes : (s : Store) → length (storeIn s l) ≡ length (storeIn s m)
-  store-sizes Priority = ap (λ (s : Sizes). s .priority) sizes
-  store-sizes Ordinary = ap (λ (s : Sizes). s .ordinary) sizes
+  store-sizes Priority = ap (λ (s : SizesAlike). s .priority) sizes
+  store-sizes Ordinary = ap (λ (s : SizesAlike). s .ordinary) sizes
 
   pub tables-same : tablesSized (l .tables) ≡ tablesSized (m .tables)
   unfolding tablesSized
-  tables-same = rw (ap (λ (s : Sizes). s .five) sizes, ap (λ (s : Sizes). s .six) sizes, ap (λ (s : Sizes). s .seven) sizes)
+  tables-same = rw (ap (λ (s : SizesAlike). s .five) sizes, ap (λ (s : SizesAlike). s .six) sizes, ap (λ (s : SizesAlike). s .seven) sizes)
 
   -- emptied, they may hold anything
   cleared : Held emptyRing emptyRing 0 l m
@@ -72,7 +72,7 @@ module _ (l m : Lent) (sizes : sizesIn l ≡ sizesIn m) where
       record {
         priority = emptied Priority (store-sizes Priority);
         ordinary = emptied Ordinary (store-sizes Ordinary);
-        load = none-came 0 refl (ap (λ (s : Sizes). s .load) sizes);
+        load = none-came 0 refl (ap (λ (s : SizesAlike). s .load) sizes);
       }
 
 -- ---- what does nothing asleep

@@ -30,7 +30,7 @@ use Rattle.rules.specs.declared.Exchange.the-variants.{Closed, Status, R
 use Rattle.rules.specs.declared.Pod.{Pod}
 use Rattle.rules.specs.State.{withFields, withWords, withRing, ringOf, remainingOf, withRemaining, freshPod, soundPod, Lent, storeIn, withStore, withTables, withDesk}
 use Rattle.rules.specs.Obey.{Meant, success, report, value, block, shut, initialisedPod, checksOf, doneBy, obeyOf, matches, dropFrom, settled, acknowledgedOf}
-use Rattle.rules.specs.Refusals.{Given, allRow}
+use Rattle.rules.specs.Refusals.{Giving, allRow}
 use Rattle.rules.specs.Families.{WordCall, command, dataIn, dataOut, status, wordLent}
 use Rattle.rules.specs.Calls.{powerCall, Spoken, silent, says, replied, packetHeard, meantBody, replyBytes, spokenBytes, answered, packetCall, deadlineCall, putCall, wordRows, worded, wordCall, pipeCall, samplesCall}
 use Rattle.rules.specs.World.{World, world, Call, power, packet, deadline, put, word, pipe, samples, Told, Stepped, overTables, overRoom, overNothing, overStore, overDesk, overSent, overFrames, step, rowsOf, Point, point, run}
@@ -225,7 +225,7 @@ module _ (p : Pod) (l m : Lent) (h : Alike p l m) where
   word-same : (c : WordCall) → Clear (wordRows c (l .tables) p) → Same (wording c w₁) (wording c w₂)
   word-same c k = on (words-alike c (p .initialised) (p .words) (l .tables) (l .load) (m .load) (pod-in p (sound-word c (l .tables) p k) .words) (h .load))
     where
-      on : {o q : Out Given Words Desk} → SameDesk o q → Same (overDesk (given (worded o p)) w₁) (overDesk (given (worded q p)) w₂)
+      on : {o q : Out Giving Words Desk} → SameDesk o q → Same (overDesk (given (worded o p)) w₁) (overDesk (given (worded q p)) w₂)
       on (same-desk g x t d e k) =
           record { points = refl; twins = twin (withWords x p) (withDesk (desk t d) l) (withDesk (desk t e) m) (record { priority = h .priority; ordinary = h .ordinary; load = k }) }
 

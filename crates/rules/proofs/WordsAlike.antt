@@ -18,7 +18,7 @@ use Rattle.orders.specs.Command.{orderHeard}
 use Rattle.tables.specs.Port.{Desk, desk, Tabled, fits, closeOf, wrongWay, readOpenedAt, readOpened, restarted, orderObeyed, commandOf, readNext, wordGiven, dataOutOf, statusOf}
 use Rattle.tables.specs.Bounds.{soundWords}
 use Rattle.tables.proofs.Stale.{gathered as cameOf, Unseen, data-in-unseen}
-use Rattle.rules.specs.Refusals.{Given, done}
+use Rattle.rules.specs.Refusals.{Giving, done}
 use Rattle.rules.specs.Families.{WordCall, command, dataIn, dataOut, status, wordOf}
 
 -- the same k words have come; those behind them may differ
@@ -33,8 +33,8 @@ none-came k z h = rw z (record { long = h; came = refl })
 -- ---- the four words
 
 -- the same is said, with the same port and tables, and the same words of an open load have come
-pub data SameDesk : Out Given Words Desk → Out Given Words Desk → Type 0 where
-  same-desk : (g : Given) (w : Words) (t : Three) (d e : List ℕ) → Gathered (cameOf (w .transfer)) d e
+pub data SameDesk : Out Giving Words Desk → Out Giving Words Desk → Type 0 where
+  same-desk : (g : Giving) (w : Words) (t : Three) (d e : List ℕ) → Gathered (cameOf (w .transfer)) d e
       → SameDesk (out g w (desk t d)) (out g w (desk t e))
 
 -- with a command word none has come

@@ -23,7 +23,7 @@ use Rattle.frames.specs.Layout.{framesOf}
 use Rattle.rules.specs.declared.Pod.{Pod}
 use Rattle.rules.specs.State.{Lent, storeIn, withWords, withRing, withPipe, ringOf, freshPod}
 use Rattle.rules.specs.Obey.{Meant, success, report, value, block, shut, obeyOf, acknowledgedOf, reportOf}
-use Rattle.rules.specs.Refusals.{Given, done, bytes, Out, roomRow, allRow, storeRow, tablesRow, stateRow, blockRow, setRow, overRow, asleepRow, fullRow}
+use Rattle.rules.specs.Refusals.{Giving, done, bytes, Out, roomRow, allRow, storeRow, tablesRow, stateRow, blockRow, setRow, overRow, asleepRow, fullRow}
 use Rattle.rules.specs.Families.{WordCall, wordOf, wordLent, PipeCall, pipeOf}
 
 -- ---- power on: lent the tables
@@ -77,10 +77,10 @@ spokenBytes silent p l = []
 spokenBytes (says first r) p l = replyBytes first r p l
 
 -- "An answer is written from the start of the answer room; the rest of the room is kept."
-abbrev pub written : List ℕ → List ℕ → Pod → Lent → Left Given Pod Roomed
+abbrev pub written : List ℕ → List ℕ → Pod → Lent → Left Giving Pod Roomed
 written answer room p l = out (bytes (length answer)) p (roomed (sets room 0 answer) l)
 
-unfoldable pub answered : Left Spoken Pod Lent → List ℕ → Left Given Pod Roomed
+unfoldable pub answered : Left Spoken Pod Lent → List ℕ → Left Giving Pod Roomed
 answered o room = written (spokenBytes (o .said) (o .pod) (o .lent)) room (o .pod) (o .lent)
 
 abbrev pub packetRows : Roomed → Pod → List Row
@@ -104,7 +104,7 @@ abbrev pub putRows : Store → List ℕ → List ℕ → Pod → List Row
 putRows s b store p = storeRow s store ∷ stateRow p ∷ blockRow b ∷ asleepRow p ∷ fullRow s p ∷ []
 
 -- "The camera's put adds a block behind the others"
-abbrev pub shelved : Store → List ℕ → List ℕ → Pod → Left Given Pod (List ℕ)
+abbrev pub shelved : Store → List ℕ → List ℕ → Pod → Left Giving Pod (List ℕ)
 shelved s b store p = out done (withRing s (putRing (ringOf s p)) p) (putStore (capacityOf s) (ringOf s p) store b)
 
 unfoldable pub putCall : Store → List ℕ → List ℕ → Pod → Out (List ℕ)
@@ -115,7 +115,7 @@ putCall s b store p = ran (putRows s b store p) p store (shelved s b store p)
 abbrev pub wordRows : WordCall → Three → Pod → List Row
 wordRows c t p = wordLent c t ++ (stateRow p ∷ [])
 
-abbrev pub worded : Left Given Words Desk → Pod → Left Given Pod Desk
+abbrev pub worded : Left Giving Words Desk → Pod → Left Giving Pod Desk
 worded o p = out (o .said) (withWords (o .pod) p) (o .lent)
 
 unfoldable pub wordCall : WordCall → Desk → Pod → Out Desk
@@ -126,7 +126,7 @@ wordCall c d p = ran (wordRows c (d .tables) p) p d (worded (wordOf c (p .initia
 abbrev pub pipeRows : PipeCall → Pod → List Row
 pipeRows c p = stateRow p ∷ asleepRow p ∷ []
 
-abbrev pub passed : Left Given Pipe Sent → Pod → Left Given Pod Sent
+abbrev pub passed : Left Giving Pipe Sent → Pod → Left Giving Pod Sent
 passed o p = out (o .said) (withPipe (o .pod) p) (o .lent)
 
 unfoldable pub pipeCall : PipeCall → Pod → Out Sent
@@ -141,7 +141,7 @@ abbrev pub samplesRows : ℕ → List ℕ → Pod → List Row
 samplesRows check xs p = stateRow p ∷ setRow xs ∷ overRow check xs ∷ []
 
 -- a sample set with a self-check number gives the two frames, and changes nothing
-abbrev pub framed : ℕ → List ℕ → Pod → Left Given Pod Frames
+abbrev pub framed : ℕ → List ℕ → Pod → Left Giving Pod Frames
 framed check xs p = out done p (framesOf 16 xs (p .pipe) (p .initialised) check)
 
 unfoldable pub samplesCall : ℕ → List ℕ → Pod → Out Frames

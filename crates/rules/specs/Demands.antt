@@ -37,7 +37,7 @@ use Rattle.rules.specs.Judged.{checkOf}
 use Rattle.rules.specs.Numbered.{rowHolds}
 use Rattle.rules.specs.Transfers.{cuts, cutsLoad, writtenIn, othersIn, opened, loaded, Loads, Loading, wordShown, readsIn, Reads, errorBy, tablesBy}
 use Rattle.rules.specs.Port.{portBy, wordPlaces, wordGives, wordOpens, isRead, ported, portedBy}
-use Rattle.rules.specs.Pairs.{Accepts, ShutsDown, keptIn, seenIn, sizesIn, Asleep, Moment, past}
+use Rattle.rules.specs.Pairs.{Accepts, ShutsDown, keptIn, seenIn, sizesIn, Asleep, Moment, pastOf}
 
 -- ---- 1. "Any packet, word, sample or state may arrive. Each is answered, or refused by a number in document 01"
 
@@ -271,9 +271,9 @@ AsFromPower =
 -- overwritten by anything at any time, so that such a past leads to any world at all, and this is NoTrace in the owner's words
 abbrev pub NoTracePast : Type 0
 NoTracePast =
-    (f : Fields) (b room : List ℕ) (l m : Lent) (ds es : List Moment) → keptIn (past (powered l) ds) ≡ keptIn (past (powered m) es)
-    → Accepts f b room (past (powered l) ds) → Accepts f b room (past (powered m) es)
-    → (cs : List Call) → run (past (powered l) ds) (packet b room ∷ cs) ≡ run (past (powered m) es) (packet b room ∷ cs)
+    (f : Fields) (b room : List ℕ) (l m : Lent) (ds es : List Moment) → keptIn (pastOf (powered l) ds) ≡ keptIn (pastOf (powered m) es)
+    → Accepts f b room (pastOf (powered l) ds) → Accepts f b room (pastOf (powered m) es)
+    → (cs : List Call) → run (pastOf (powered l) ds) (packet b room ∷ cs) ≡ run (pastOf (powered m) es) (packet b room ∷ cs)
 
 -- ".. two such pods that differ only in parameters, table words and survey blocks answer alike": every call, up to and
 -- including the next accepted Initialise, and by NoTrace ever after

@@ -12,7 +12,7 @@ use Rattle.pipe.specs.declared.Pipe.{Pipe}
 use Rattle.pipe.specs.declared.Sent.{Sent}
 use Rattle.pipe.specs.declared.Piped.{Piped}
 use Rattle.pipe.specs.Input.{pipeByte, pipeTimeout}
-use Rattle.rules.specs.Refusals.{Given, done, reads, tablesRow}
+use Rattle.rules.specs.Refusals.{Giving, done, reads, tablesRow}
 
 -- ---- the table words
 
@@ -23,14 +23,14 @@ pub data WordCall : Type 0 where
   status : WordCall
 
 -- a word written, and a word read
-abbrev pub wordWritten : Tabled → Out Given Words Desk
+abbrev pub wordWritten : Tabled → Out Giving Words Desk
 wordWritten s = out done (s .words) (s .desk)
 
-abbrev pub wordRead : Answered → Desk → Out Given Words Desk
+abbrev pub wordRead : Answered → Desk → Out Giving Words Desk
 wordRead a d = out (reads (a .word)) (a .words) d
 
 -- a Bool says whether the pod is initialised
-unfoldable pub wordOf : WordCall → Bool → Words → Desk → Out Given Words Desk
+unfoldable pub wordOf : WordCall → Bool → Words → Desk → Out Giving Words Desk
 wordOf (command x) on w d = wordWritten (commandOf on x (tabled w d))
 wordOf (dataIn x) on w d = wordWritten (dataInOf x (tabled w d))
 wordOf dataOut on w d = wordRead (dataOutOf w (d .tables)) d
@@ -50,9 +50,9 @@ pub data PipeCall : Type 0 where
   timeout : PipeCall
 
 -- what the input half makes of a call; what is sent is given back
-abbrev pub inputMoved : Piped → Pipe → Out Given Pipe Sent
+abbrev pub inputMoved : Piped → Pipe → Out Giving Pipe Sent
 inputMoved q p = out done (record { input = q .input }) (q .sent)
 
-unfoldable pub pipeOf : PipeCall → Pipe → Out Given Pipe Sent
+unfoldable pub pipeOf : PipeCall → Pipe → Out Giving Pipe Sent
 pipeOf (byte b) p = inputMoved (pipeByte (p .input) b) p
 pipeOf timeout p = inputMoved (pipeTimeout (p .input)) p

@@ -21,7 +21,7 @@ use Rattle.rules.specs.declared.Exchange.{Exchange}
 use Rattle.rules.specs.declared.Exchange.the-variants.{Closed, Status, Read, Receive}
 use Rattle.rules.specs.State.{freshFields, remainingOf, withRemaining}
 use Rattle.rules.specs.Obey.{receives}
-use Rattle.rules.specs.Refusals.{Given, done, bytes, reads}
+use Rattle.rules.specs.Refusals.{Giving, done, bytes, reads}
 use Rattle.rules.specs.Families.{WordCall, PipeCall, byte, timeout}
 use Rattle.rules.specs.World.{World, Call, power, packet, deadline, put, word, pipe, samples, Told, step, next}
 
@@ -34,7 +34,7 @@ pub data Event : Type 0 where
   begins : Bool → Fields → Event
   sleeps : Event
   updates : Fields → Event
-  writes : ℕ → ℤ → Event
+  writesParameter : ℕ → ℤ → Event
   -- a type 2 command answered without error
   opensExchange : Exchange → Event
   -- a packet answered with an error, or the deadline
@@ -51,7 +51,7 @@ abbrev pub obeyedAs : Command → Event
 obeyedAs (command.Initialise f) = begins true f
 obeyedAs command.Status = opensExchange Status
 obeyedAs (command.Update f) = updates f
-obeyedAs (command.Write id v) = writes id v
+obeyedAs (command.Write id v) = writesParameter id v
 obeyedAs (command.Read id) = opensExchange Read
 obeyedAs command.Priority = opensExchange (Receive Priority)
 obeyedAs command.Data = opensExchange (Receive Ordinary)
@@ -65,7 +65,7 @@ packetAs (Acknowledgement first one) ok = hearsAcknowledgement first one
 packetAs (Asked c) ok = cond ok (obeyedAs c) closesExchange
 
 -- a packet was answered, and the second byte of its answer is k
-abbrev pub secondIs : ℕ → Said Given → List ℕ → Bool
+abbrev pub secondIs : ℕ → Said Giving → List ℕ → Bool
 secondIs k (refused n) room = false
 secondIs k (gave done) room = false
 secondIs k (gave (bytes n)) room = ltb 0 n && eqb (getD room 1 0) k
@@ -88,7 +88,7 @@ givenAs (word c) t = words c
 givenAs (pipe c) t = pipes c (t .bytes)
 givenAs (samples k xs) t = nothing
 
-abbrev pub saidAs : Said Given → Call → Told → Event
+abbrev pub saidAs : Said Giving → Call → Told → Event
 saidAs (refused n) c t = nothing
 saidAs (gave g) c t = givenAs c t
 
@@ -111,7 +111,7 @@ awakeBy nothing b = b
 awakeBy (begins a f) b = a
 awakeBy sleeps b = false
 awakeBy (updates f) b = b
-awakeBy (writes id v) b = b
+awakeBy (writesParameter id v) b = b
 awakeBy (opensExchange x) b = b
 awakeBy closesExchange b = b
 awakeBy (hearsAcknowledgement first one) b = b
@@ -127,7 +127,7 @@ exchangeBy nothing x = x
 exchangeBy (begins a f) x = Closed
 exchangeBy sleeps x = Closed
 exchangeBy (updates f) x = Closed
-exchangeBy (writes id v) x = Closed
+exchangeBy (writesParameter id v) x = Closed
 exchangeBy (opensExchange y) x = y
 exchangeBy closesExchange x = Closed
 exchangeBy (hearsAcknowledgement first one) x = Closed
@@ -166,7 +166,7 @@ blocksBy s nothing x q = q
 blocksBy s (begins a f) x q = []
 blocksBy s sleeps x q = q
 blocksBy s (updates f) x q = q
-blocksBy s (writes id v) x q = q
+blocksBy s (writesParameter id v) x q = q
 blocksBy s (opensExchange y) x q = q
 blocksBy s closesExchange x q = q
 blocksBy s (hearsAcknowledgement first one) x q = cond (acknowledged s first one x) (drop 1 q) q
@@ -195,7 +195,7 @@ fieldsBy nothing x f = f
 fieldsBy (begins a g) x f = g
 fieldsBy sleeps x f = f
 fieldsBy (updates g) x f = g
-fieldsBy (writes id v) x f = f
+fieldsBy (writesParameter id v) x f = f
 fieldsBy (opensExchange y) x f = f
 fieldsBy closesExchange x f = f
 fieldsBy (hearsAcknowledgement first one) x f = lessBy Priority first one x (lessBy Ordinary first one x f)
@@ -213,7 +213,7 @@ valueBy id nothing v = v
 valueBy id (begins a f) v = paramRow id .start
 valueBy id sleeps v = v
 valueBy id (updates f) v = v
-valueBy id (writes k u) v = cond (eqb k id) u v
+valueBy id (writesParameter k u) v = cond (eqb k id) u v
 valueBy id (opensExchange x) v = v
 valueBy id closesExchange v = v
 valueBy id (hearsAcknowledgement first one) v = v
@@ -226,7 +226,7 @@ markBy id nothing m = m
 markBy id (begins a f) m = false
 markBy id sleeps m = m
 markBy id (updates f) m = m
-markBy id (writes k u) m = eqb k id || m
+markBy id (writesParameter k u) m = eqb k id || m
 markBy id (opensExchange x) m = m
 markBy id closesExchange m = m
 markBy id (hearsAcknowledgement first one) m = m
@@ -259,7 +259,7 @@ flowBy nothing f = f
 flowBy (begins a g) f = noFlow
 flowBy sleeps f = f
 flowBy (updates g) f = f
-flowBy (writes id v) f = f
+flowBy (writesParameter id v) f = f
 flowBy (opensExchange x) f = f
 flowBy closesExchange f = f
 flowBy (hearsAcknowledgement first one) f = f
@@ -273,7 +273,7 @@ sentBy nothing s = s
 sentBy (begins a f) s = []
 sentBy sleeps s = s
 sentBy (updates f) s = s
-sentBy (writes id v) s = s
+sentBy (writesParameter id v) s = s
 sentBy (opensExchange x) s = s
 sentBy closesExchange s = s
 sentBy (hearsAcknowledgement first one) s = s

@@ -36,7 +36,7 @@ abbrev pub keptIn : World → Kept
 keptIn w = tt
 
 -- the sizes of all that is lent
-pub record Sizes : Type 0 where
+pub record SizesAlike : Type 0 where
   pub priority : ℕ
   pub ordinary : ℕ
   pub five : ℕ
@@ -44,7 +44,7 @@ pub record Sizes : Type 0 where
   pub seven : ℕ
   pub load : ℕ
 
-abbrev pub sizesIn : Lent → Sizes
+abbrev pub sizesIn : Lent → SizesAlike
 sizesIn l =
     record {
       priority = length (l .priority);
@@ -62,7 +62,7 @@ pub record Seen : Type 0 where
   pub exchange : Exchange
   pub words : Words
   pub pipe : Pipe
-  pub sizes : Sizes
+  pub sizes : SizesAlike
 
 abbrev pub seenIn : World → Seen
 seenIn w =
@@ -87,7 +87,7 @@ pub data Moment : Type 0 where
   ask : Call → Moment
   overwritten : World → Moment
 
-unfoldable pub past : World → List Moment → World
-past w [] = w
-past w (ask c ∷ es) = past (next w c) es
-past w (overwritten v ∷ es) = past v es
+unfoldable pub pastOf : World → List Moment → World
+pastOf w [] = w
+pastOf w (ask c ∷ es) = pastOf (next w c) es
+pastOf w (overwritten v ∷ es) = pastOf v es

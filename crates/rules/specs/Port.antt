@@ -18,7 +18,7 @@ use Rattle.tables.specs.Tables.{readPlace, withReadPlace}
 use Rattle.orders.specs.Command.{orderHeard}
 use Rattle.tables.specs.Port.{Desk, startWords, header, closeOf, beginsAt}
 use Rattle.rules.specs.Families.{WordCall, command, dataIn, dataOut, status, wordOf}
-use Rattle.rules.specs.History.{Event, nothing, begins, sleeps, updates, writes, opensExchange, closesExchange, hearsAcknowledgement, puts, words, pipes}
+use Rattle.rules.specs.History.{Event, nothing, begins, sleeps, updates, writesParameter, opensExchange, closesExchange, hearsAcknowledgement, puts, words, pipes}
 use Rattle.rules.specs.Transfers.{notTaken, wordErrs}
 
 -- all of the port: Initialise and power leave it as from power, Shutdown "closes an open transfer", a table word does what it does, and
@@ -28,7 +28,7 @@ portBy nothing on w d = w
 portBy (begins a f) on w d = startWords
 portBy sleeps on w d = closeOf w
 portBy (updates f) on w d = w
-portBy (writes id v) on w d = w
+portBy (writesParameter id v) on w d = w
 portBy (opensExchange x) on w d = w
 portBy closesExchange on w d = w
 portBy (hearsAcknowledgement first one) on w d = w
@@ -144,7 +144,7 @@ portedBy nothing p = p
 portedBy (begins a f) p = ported a startWords (p .load)
 portedBy sleeps p = ported false (closeOf (p .words)) (p .load)
 portedBy (updates f) p = p
-portedBy (writes id v) p = p
+portedBy (writesParameter id v) p = p
 portedBy (opensExchange x) p = p
 portedBy closesExchange p = p
 portedBy (hearsAcknowledgement first one) p = p

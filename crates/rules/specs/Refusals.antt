@@ -21,14 +21,14 @@ use Rattle.rules.specs.State.{Lent, ringOf, soundPod}
 -- ---- what is said
 
 -- what a call gives that is not refused: done, the length of an answer, a word
-pub data Given : Type 0 where
-  done : Given
-  bytes : ℕ → Given
-  reads : ℕ → Given
+pub data Giving : Type 0 where
+  done : Giving
+  bytes : ℕ → Giving
+  reads : ℕ → Giving
 
 -- what a call leaves: what it says, the pod, and what was lent
 abbrev pub Out : Type 0 → Type 0
-Out L = Left (Said Given) Pod L
+Out L = Left (Said Giving) Pod L
 
 -- "No.": the number of each refusal
 unfoldable pub refusalNumber : Refusal → ℕ
@@ -41,7 +41,7 @@ refusalNumber Asleep = 6
 refusalNumber Full = 7
 
 -- an answer in document 01's numbers
-unfoldable pub answerSaid : Answer → Said Given
+unfoldable pub answerSaid : Answer → Said Giving
 answerSaid (Refused r) = refused (refusalNumber r)
 answerSaid Done = gave done
 answerSaid (Length n) = gave (bytes n)

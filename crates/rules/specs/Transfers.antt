@@ -20,7 +20,7 @@ use Rattle.tables.specs.Port.{Desk, desk, dataCount, fits, header, isOpen, begi
 use Rattle.rules.specs.State.{soundPod, withWords, withDesk}
 use Rattle.rules.specs.Families.{WordCall, command, dataIn, dataOut, status}
 use Rattle.rules.specs.World.{World, world, withPod, Call, power, packet, deadline, put, word, pipe, samples, next}
-use Rattle.rules.specs.History.{Event, nothing, begins, sleeps, updates, writes, opensExchange, closesExchange, hearsAcknowledgement, puts, words, pipes, events}
+use Rattle.rules.specs.History.{Event, nothing, begins, sleeps, updates, writesParameter, opensExchange, closesExchange, hearsAcknowledgement, puts, words, pipes, events}
 
 -- a world in which no row that applies to a table word holds
 pub record Fit (w : World) : Type 0 where
@@ -50,7 +50,7 @@ cuts f nothing = false
 cuts f (begins a g) = true
 cuts f sleeps = true
 cuts f (updates g) = false
-cuts f (writes id v) = false
+cuts f (writesParameter id v) = false
 cuts f (opensExchange x) = false
 cuts f closesExchange = false
 cuts f (hearsAcknowledgement first one) = false
@@ -198,7 +198,7 @@ errorBy nothing on w l e = e
 errorBy (begins a f) on w l e = false
 errorBy sleeps on w l e = e || isOpen (w .transfer)
 errorBy (updates f) on w l e = e
-errorBy (writes id v) on w l e = e
+errorBy (writesParameter id v) on w l e = e
 errorBy (opensExchange x) on w l e = e
 errorBy closesExchange on w l e = e
 errorBy (hearsAcknowledgement first one) on w l e = e
@@ -235,7 +235,7 @@ tablesBy nothing on w d = d .tables
 tablesBy (begins a f) on w d = starts
 tablesBy sleeps on w d = d .tables
 tablesBy (updates f) on w d = d .tables
-tablesBy (writes id v) on w d = d .tables
+tablesBy (writesParameter id v) on w d = d .tables
 tablesBy (opensExchange x) on w d = d .tables
 tablesBy closesExchange on w d = d .tables
 tablesBy (hearsAcknowledgement first one) on w d = d .tables

@@ -14,7 +14,7 @@ use Rattle.pipe.specs.Input.{sentBytes}
 use Rattle.frames.specs.declared.Frames.{Frames}
 use Rattle.rules.specs.declared.Pod.{Pod}
 use Rattle.rules.specs.State.{freshPod, Lent, storeIn, withStore, withTables, deskIn, withDesk}
-use Rattle.rules.specs.Refusals.{Given, bytes, Out}
+use Rattle.rules.specs.Refusals.{Giving, bytes, Out}
 use Rattle.rules.specs.Families.{WordCall, PipeCall}
 use Rattle.rules.specs.Calls.{powerRows, powerCall, Roomed, roomed, packetRows, packetCall, deadlineRows, deadlineCall, putRows, putCall, wordRows, wordCall, pipeRows, pipeCall, samplesRows, samplesCall}
 
@@ -52,10 +52,10 @@ roomOf (samples k xs) = []
 
 -- what a call tells: what it says, and the bytes that it gives: the room after a packet, what the pipe sent, two frames
 pub record Told : Type 0 where
-  pub said : Said Given
+  pub said : Said Giving
   pub bytes : List ℕ
 
-abbrev pub told : Said Given → List ℕ → Told
+abbrev pub told : Said Giving → List ℕ → Told
 told s l = record { said = s; bytes = l }
 
 -- an answer told: its length, and "written from the start of the answer room; the rest of the room is kept"
@@ -66,7 +66,7 @@ pub record Stepped : Type 0 where
   pub told : Told
   pub world : World
 
-abbrev pub stepped : Said Given → List ℕ → Pod → Lent → Stepped
+abbrev pub stepped : Said Giving → List ℕ → Pod → Lent → Stepped
 stepped s b p l = record { told = told s b; world = world p l }
 
 -- ---- what each kind of outcome makes of the world
@@ -90,7 +90,7 @@ abbrev pub overSent : Out Sent → World → Stepped
 overSent o w = stepped (o .said) (sentBytes (o .lent)) (o .pod) (w .lent)
 
 -- refused, no frames are given
-abbrev pub framesIn : Said Given → Frames → List ℕ
+abbrev pub framesIn : Said Giving → Frames → List ℕ
 framesIn (refused n) f = []
 framesIn (gave g) f = f .an03 ++ f .an47
 
@@ -142,7 +142,7 @@ unfoldable pub tells : World → List Call → List Told
 tells w [] = []
 tells w (c ∷ cs) = step w c .told ∷ tells (next w c) cs
 
-abbrev pub isRefused : Said Given → Bool
+abbrev pub isRefused : Said Giving → Bool
 isRefused (refused n) = true
 isRefused (gave g) = false
 

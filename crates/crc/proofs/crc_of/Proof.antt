@@ -6,7 +6,7 @@ use native.Mathlib.Omega.{arith}
 use borrow.Author.Needs.{needs}
 use lib.ListN.{length, take, drop, length-take, length-drop, drop-of-length-le}
 use Rattle.crc.specs.Crc.{crcFrom, crcOf}
-use Rattle.crc.specs.Bytes.{bytesOf}
+use Rattle.crc.specs.Bytes.{crcBytes}
 use Rattle.crc.proofs.Register.{from-none}
 use Rattle.crc.proofs.Bytes.{places-are, more}
 use Rattle.crc.proofs.Fold.{fold, started, eight-more, eight-fits}
@@ -38,7 +38,7 @@ crc-of-spec =
     let at = c .before .before .before .loop in
     let bytes = c .before .before .before .before .before .args .bytes .now in
     let eight : (at .i + 8) - at .i ≡ 8 = omega arith in
-    let word : bytesOf 8 (c .word-of .result) ≡ take 8 (drop (at .i) bytes) = rw eight at (c .word-of .ensures) in
+    let word : crcBytes 8 (c .word-of .result) ≡ take 8 (drop (at .i) bytes) = rw eight at (c .word-of .ensures) in
     let told = eight-more (at .s) (c .word-of .result) (at .inv .1) ∙ ap (crcFrom (fold (at .s))) word in
     (search needs, eight-fits (at .s) (c .word-of .result) (at .inv .1) (search needs), ap (λ (x : ℕ). crcFrom x (drop (at .i + 8) bytes)) told ∙ sym (more 8 (fold (at .s)) bytes (at .i)) ∙ at .inv .2))
     (λ c κs. search needs) (λ c. (search needs, rw (c .fold-of .ensures) (c .before .before .loop .inv .2))) (λ c. search needs)

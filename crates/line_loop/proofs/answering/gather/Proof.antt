@@ -11,7 +11,7 @@ use Rattle.rows.proofs.Bool.{and-left, and-right}
 use Rattle.lines.specs.declared.Cut.{Cut}
 use Rattle.line_calls.specs.Memory.{memory}
 use Rattle.line_loop.specs.declared.Standing.{Standing}
-use Rattle.line_loop.specs.Turns.{stand, Turns, start, next, Fine}
+use Rattle.line_loop.specs.Turns.{stand, Turns, start, another, Fine}
 use Rattle.line_loop.proofs.Turning.{cut-on, turn-found, turn-more, within-answered}
 use borrow.Author.Needs.{needs}
 use Rattle.line_loop.proofs.answering.gather.Statement.{statement}
@@ -52,7 +52,7 @@ loop-again : tie.Need-loop-again Inv-loop μ-loop
 loop-again c =
     let inv = c .before .before .before .before .before .before .before .before .loop .inv in
     let l = c .before .before .before .next-line in (
-      next _ _ _ (inv .0) (turn-more _ _ _ _ (l .result) (l .ensures .0) refl (l .ensures .1 .0) (c .enum-told .given .1) refl refl refl),
+      another _ _ _ (inv .0) (turn-more _ _ _ _ (l .result) (l .ensures .0) refl (l .ensures .1 .0) (c .enum-told .given .1) refl refl refl),
       record { start = l .ensures .1 .1 .1 .0; longest = l .ensures .1 .1 .1 .1; within = inv .1 .within },
     )
 
@@ -77,7 +77,7 @@ loop-again-2 c =
     let inv = c .before .before .before .before .before .before .before .before .before .before .before .before .before .before .before .before .before .before .before .before .before .loop .inv in
     let l = c .before .before .before .before .before .before .before .before .before .before .before .before .before .before .before .before .next-line in
     let a = c .answered .ensures in (
-      next _ _ _ (inv .0) (turn-found _ _ _ _ (l .result) (l .ensures .0) refl (l .ensures .1 .0) (c .before .before .before .before .before .before .before .before .before .before .before .before .before .before .match .keys2) (rw (c .before .before .before .before .before .before .before .before .before .before .before .text .ensures .0) at a)),
+      another _ _ _ (inv .0) (turn-found _ _ _ _ (l .result) (l .ensures .0) refl (l .ensures .1 .0) (c .before .before .before .before .before .before .before .before .before .before .before .before .before .before .match .keys2) (rw (c .before .before .before .before .before .before .before .before .before .before .before .text .ensures .0) at a)),
       record { start = l .ensures .1 .1 .1 .0; longest = l .ensures .1 .1 .1 .1; within = within-answered a (inv .1 .within) },
     )
 
