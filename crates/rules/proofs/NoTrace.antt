@@ -7,7 +7,7 @@ use mathlib.Core.List.{List, [], _∷_}
 use lib.Dec.{eqb}
 use lib.ListN.{length}
 use borrow.Author.Tests.{eqb-true}
-use Rattle.rows.specs.Rows.{Clear, none, pastOf as clear}
+use Rattle.rows.specs.Rows.{Clear, none, past as clear}
 use Rattle.rows.proofs.Bool.{not-false, and-left, and-right}
 use Rattle.rows.proofs.Laws.{clear-head, clear-rest}
 use Rattle.blocks.specs.declared.Store.the-variants.{Priority, Ordinary}
