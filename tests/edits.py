@@ -1,8 +1,8 @@
 #!/usr/bin/env python3
 """Holds the logs of the must-fail edits against what the edits are for. `rt must-fail` asks that each edit is refused; one edit
 may hold a wrong line for each of several functions, so here each of these functions must have been refused by itself, and
-each edit that docs/PROMISES.md names for a statement must have failed at that statement's proof. Needs target/must-fail, as
-`rt ci` or `rt must-fail` leave it."""
+under each edit that docs/PROMISES.md names for a statement that statement's proof must have failed, by itself or because a law
+that it goes by failed; no edit may be one that is not well formed. Needs target/must-fail, as `rt ci` or `rt must-fail` leave it."""
 import pathlib
 import re
 import sys
@@ -87,6 +87,15 @@ def publics():
     return count
 
 
+def formed():
+    """No edit is refused because a definition can't be read: its first error stands in a proof or in the code."""
+    for edit in sorted(ROOT.glob('crates/*/must-fail/*.edit')):
+        crate = edit.parent.parent.name
+        first = re.search(r'^(?:note: )?\S*/(specs|proofs|src)/\S*:\d+:\d+:', log_of(crate, edit.stem), re.M)
+        if first and first.group(1) == 'specs':
+            fail(f'{crate}/{edit.stem}: a definition of the edit can not be read')
+
+
 def proof_of(statement):
     return PROOFS.get(statement) or re.sub(r'(?<=.)([A-Z])', r'-\1', statement).lower()
 
@@ -105,7 +114,7 @@ def fields(path):
 
 
 def statements():
-    """Each statement has its row, and each edit of the row fails at its proof."""
+    """Each statement has its row, and is not proved under any edit of the row."""
     seen = {}
     for names, edits in rows():
         for name in names:
@@ -123,10 +132,11 @@ def statements():
 
 
 def main():
+    formed()
     lines, open_to_all, said = functions(), publics(), statements()
     if failures:
         return 1
-    print(f'edits: ok, {lines} wrong lines refused at their functions, {open_to_all} public functions, {said} statements at their proofs')
+    print(f'edits: ok, {lines} wrong lines refused at their functions, {open_to_all} public functions, {said} statements not proved under theirs')
     return 0
 
 
