@@ -5,6 +5,7 @@ use mathlib.Core.Bool.{Bool, not, _&&_}
 use lib.Dec.{leb, eqb}
 use Rattle.blocks.specs.declared.Store.{Store}
 use Rattle.blocks.specs.declared.Store.the-variants.{Priority, Ordinary}
+use Rattle.blocks.specs.Stores.{capacityOf}
 use Rattle.tables.specs.Tables.{tableSize}
 use Rattle.lab_sets.specs.declared.Thing.{Thing}
 use Rattle.lab_sets.specs.declared.Thing.the-variants.{Room, Store as store, Table as table}
@@ -17,10 +18,10 @@ upTo most n = not (n .below) && leb (n .size) most
 abbrev pub minusOne : Number → Bool
 minusOne n = n .below && eqb (n .size) 1
 
--- 16 and 128 blocks of 256 bytes
+-- blocks of 256 bytes
 abbrev pub storeSize : Store → ℕ
-storeSize Priority = 16 * 256
-storeSize Ordinary = 128 * 256
+storeSize Priority = capacityOf Priority * 256
+storeSize Ordinary = capacityOf Ordinary * 256
 
 -- the answer room and the stores in bytes, the tables in words
 abbrev pub rightSize : Thing → ℕ

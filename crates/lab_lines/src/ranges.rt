@@ -1,10 +1,13 @@
 // How large each part and each lent thing may be asked for.
 use crate::Number;
+use blocks::BLOCK;
 use blocks::Store;
+use blocks::capacity;
 use lab_sets::Cell;
 use lab_sets::Field;
 use lab_sets::Thing;
 use tables::Table;
+use tables::size;
 ghost use mathlib.Core.Path.{_≡_};
 ghost use Prim.Native.Nat.{_≤_};
 ghost use Rattle.tables.specs.Tables.{tableSize};
@@ -67,20 +70,13 @@ pub fn cell_most(cell: Cell) -> u64
 fn store_size(store: Store) -> u64
     ensures { λ r. ⌜ (r ≡ storeSize store) × (r ≤ 32768) ⌝ }
 {
-    match store {
-        Store::Priority => 4096,
-        Store::Ordinary => 32768,
-    }
+    (capacity(store) * BLOCK) as u64
 }
 
 fn table_size(table: Table) -> u64
     ensures { λ r. ⌜ (r ≡ tableSize table) × (r ≤ 32768) ⌝ }
 {
-    match table {
-        Table::Five => 64,
-        Table::Six => 128,
-        Table::Seven => 64,
-    }
+    size(table) as u64
 }
 
 // The size at which a thing is lent as usual.

@@ -20,6 +20,7 @@ pub use bounds::sound;
 use orders::Order;
 pub use orders::Table;
 use orders::heard;
+pub use sizes::size;
 pub use starts::start_words;
 pub use starts::to_starts;
 ghost use mathlib.Core.Path.{_≡_};

@@ -6,7 +6,8 @@ ghost use Rattle.tables.specs.Tables.{tableSize};
 ghost use Rattle.orders.specs.Command.{tableNumber};
 ghost use Rattle.tables.specs.Port.{dataCount, fits};
 
-fn size(table: Table) -> u32
+// In words.
+pub fn size(table: Table) -> u32
     ensures { λ r. ⌜ r ≡ tableSize table ⌝ }
 {
     match table {
