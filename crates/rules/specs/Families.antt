@@ -1,4 +1,5 @@
--- Calls that touch one part of the pod: the table words and the byte pipe, each over that part and what it is lent alone.
+-- Calls that touch few parts of the pod: the table words, and the calls that are lent nothing, each over those parts and what it is lent
+-- alone.
 -- Assumes nothing.
 use Prim.Native.Nat.{ℕ}
 use mathlib.Core.Bool.{Bool}
@@ -11,7 +12,9 @@ use Rattle.tables.specs.Port.{Desk, Tabled, tabled, commandOf, dataInOf, dataOu
 use Rattle.pipe.specs.declared.Pipe.{Pipe}
 use Rattle.pipe.specs.declared.Sent.{Sent}
 use Rattle.pipe.specs.declared.Piped.{Piped}
-use Rattle.pipe.specs.Input.{pipeByte, pipeTimeout}
+use Rattle.pipe.specs.Input.{sentPacket, pipeByte, pipeTimeout}
+use Rattle.rules.specs.declared.Exchange.{Exchange}
+use Rattle.rules.specs.declared.Exchange.the-variants.{Closed}
 use Rattle.rules.specs.Refusals.{Giving, done, reads, tablesRow}
 
 -- ---- the table words
@@ -49,10 +52,34 @@ pub data PipeCall : Type 0 where
   byte : ℕ → PipeCall
   timeout : PipeCall
 
--- what the input half makes of a call; what is sent is given back
-abbrev pub inputMoved : Piped → Pipe → Out Giving Pipe Sent
-inputMoved q p = out done (record { input = q .input }) (q .sent)
+-- the pipe after a call, and what it sends
+pub record Moved : Type 0 where
+  pub pipe : Pipe
+  pub sent : Sent
 
-unfoldable pub pipeOf : PipeCall → Pipe → Out Giving Pipe Sent
+-- what the input half makes of a call
+abbrev pub inputMoved : Piped → Pipe → Moved
+inputMoved q p = record { pipe = record { input = q .input }; sent = q .sent }
+
+unfoldable pub pipeOf : PipeCall → Pipe → Moved
 pipeOf (byte b) p = inputMoved (pipeByte (p .input) b) p
 pipeOf timeout p = inputMoved (pipeTimeout (p .input)) p
+
+-- ---- the calls that are lent nothing, and give back at most what the pipe sends
+
+pub data LoneCall : Type 0 where
+  deadline : LoneCall
+  pipe : PipeCall → LoneCall
+
+-- all of the pod that such a call can see or touch
+pub record Reach : Type 0 where
+  pub exchange : Exchange
+  pub pipe : Pipe
+
+abbrev pub reach : Exchange → Pipe → Reach
+reach x i = record { exchange = x; pipe = i }
+
+unfoldable pub loneOf : LoneCall → Reach → Out Giving Reach Sent
+-- "So does the deadline call (2 ms passed)": it closes an open exchange, keeping the block
+loneOf deadline r = out done (reach Closed (r .pipe)) (sentPacket [])
+loneOf (pipe c) r = let m = pipeOf c (r .pipe) in out done (reach (r .exchange) (m .pipe)) (m .sent)
