@@ -263,6 +263,7 @@ unfoldable pub flowAfter : PipeCall → Flow → Flow
 flowAfter (byte b) f = flow (f .accepted ++ (b ∷ [])) (cond (ltb (length (f .gathered)) 7) (f .gathered ++ (b ∷ [])) []) (f .timeouts)
 flowAfter timeout f = flow (f .accepted) [] (cond (eqb (length (f .gathered)) 0) (f .timeouts) (f .timeouts + 1))
 
+-- with no pipe call it is as it was
 abbrev pub flowMoved : Option PipeCall → Flow → Flow
 flowMoved none f = f
 flowMoved (some c) f = flowAfter c f
