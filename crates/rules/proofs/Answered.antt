@@ -11,12 +11,13 @@ use Rattle.rows.proofs.Laws.{never-both, first-one, refused-same, gave-not}
 use Rattle.rows.proofs.Lowest.{lowest}
 use Rattle.rules.specs.Refusals.{Giving, done}
 use Rattle.rules.specs.Families.{command, dataIn, dataOut, status, wordLent, wordOf}
+use Rattle.rules.specs.Calls.{reachOf}
 use Rattle.rules.specs.World.{World, Call, power, packet, put, word, lone, samples, roomOf, Told, Stepped, stepped, isAnswered, isRefused, step, rowsOf}
 use Rattle.rules.specs.Demands.{AlwaysAnswered, LowestFirst, RefusedUnchanged}
 use Rattle.rules.specs.History.{loneAs}
 use Rattle.rules.specs.Numbered.{isPipe}
 use Rattle.rules.specs.Said.{givesNumber, givesBytes, SaysDone}
-use Rattle.rules.proofs.Lone.{lone-rows, rise-if, unsent}
+use Rattle.rules.proofs.Lone.{lone-rows, rise-if, lone-is, unsent}
 use Rattle.rules.proofs.Happens.{Happens, by-rows, by-power, by-empty, by-damage, by-acknowledgement, by-check, by-command, by-put, by-word, by-lone, by-samples, happens}
 
 -- how a call ends: refused by its first row that holds, or answered
@@ -106,7 +107,7 @@ gives (by-word (command x) k) a = (λ e. refl, λ e. refl)
 gives (by-word (dataIn x) k) a = (λ e. refl, λ e. refl)
 gives (by-word dataOut k) a = (λ z. never refl z, λ e. refl)
 gives (by-word status k) a = (λ z. never refl z, λ e. refl)
-gives {w} (by-lone c k) a = (λ e. refl, λ e. unsent (loneAs c .moves) (w .pod .pipe) e)
+gives {w} (by-lone c k) a = (λ e. refl, λ e. rw (lone-is c (reachOf (w .pod))) (unsent (loneAs c .moves) (w .pod .pipe) e))
 gives (by-samples n xs k) a = (λ e. refl, λ z. never refl z)
 
 pub says-done : SaysDone

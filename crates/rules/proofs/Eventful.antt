@@ -7,7 +7,7 @@ use mathlib.Core.List.{List}
 use lib.Dec.{eqb}
 use lib.ListN.{length}
 use lib.IntN.{ℤ}
-use Rattle.rows.specs.Rows.{Clear, none, past}
+use Rattle.rows.specs.Rows.{Clear, none, past, given}
 use Rattle.rows.proofs.Bool.{not-false}
 use Rattle.rows.proofs.Laws.{clear-head, clear-rest}
 use Rattle.blocks.specs.declared.Store.{Store}
@@ -24,10 +24,11 @@ use Rattle.rules.specs.declared.Exchange.the-variants as exchange
 use Rattle.rules.specs.State.{ofStore, remainingOf, freshFields, soundPod, withExchange}
 use Rattle.rules.specs.Obey.{shut, checksOf, doneBy, acknowledgedOf}
 use Rattle.rules.specs.Families.{WordCall}
-use Rattle.rules.specs.Calls.{replyBytes, spokenBytes, answered}
-use Rattle.rules.specs.World.{World, world, Call, packet, put, word, Stepped, rowsOf}
+use Rattle.rules.specs.Calls.{replyBytes, spokenBytes, answered, reachOf, reached}
+use Rattle.rules.specs.World.{World, world, Call, packet, put, word, Stepped, overSent, rowsOf}
 use Rattle.rules.specs.History.{Event, nothing, begins, sleeps, updates, writesParameter, opensExchange, closesExchange, hearsAcknowledgement, puts, words, Touch, loneAs, touches, obeyedAs, succeeded, eventOf}
-use Rattle.rules.proofs.Happens.{Happens, by-rows, by-power, by-empty, by-damage, by-acknowledgement, by-check, by-command, by-put, by-word, by-lone, by-samples, powering, obeying, putting, wording, touching}
+use Rattle.rules.proofs.Happens.{Happens, by-rows, by-power, by-empty, by-damage, by-acknowledgement, by-check, by-command, by-put, by-word, by-lone, by-samples, powering, obeying, putting, wording}
+use Rattle.rules.proofs.Lone.{touchOf, lone-is}
 use Rattle.rules.proofs.Succeeded.{one-succeeds, error-fails, room-at}
 
 -- the block of an open receive waits, and remaining is above 0
@@ -43,6 +44,10 @@ Waits x p = WaitsIn x (p .priority) (p .ordinary) (p .fields)
 -- the world after a command that passes its checks, by its definition
 abbrev pub obeyedIn : Command → World → World
 obeyedIn c w = let o = doneBy c (w .lent) (shut (w .pod)) in world (o .pod) (o .lent)
+
+-- what is done by a call that is lent nothing, by what the history takes it for
+abbrev touching : Touch → World → Stepped
+touching t w = overSent (given (reached (touchOf t (reachOf (w .pod))) (w .pod))) w
 
 pub data Eventful (w : World) : Event → World → Type 0 where
   quiet : Eventful w nothing w
@@ -94,5 +99,5 @@ eventful {w} (by-check b room c n k e f) = rw (e, error-fails room (commandRow c
 eventful {w} (by-command b room c k e q) = rw (e, command-succeeds w room (room-at w b room k) c) (obeyed w room (room-at w b room k) c q)
 eventful (by-put s b k) = shelved s b k
 eventful (by-word c k) = spoken c k
-eventful (by-lone c k) = touched (loneAs c)
+eventful {w} (by-lone c k) = rw (lone-is c (reachOf (w .pod))) (touched (loneAs c))
 eventful (by-samples k xs c) = quiet

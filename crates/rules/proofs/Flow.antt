@@ -88,14 +88,14 @@ module _ (i : Input) (s : List ℕ) (f : Flow) (x : Flowing i s f) where
 
 -- each pipe call, by what it puts in and what it sent
 pub pipe-flows : (c : PipeCall) (p : Pipe) (s : List ℕ) (f : Flow) → Flowing (p .input) s f
-    → Flowing (pipeOf c p .pipe .input) (s ++ sentBytes (pipeOf c p .sent)) (flowAfter c f)
+    → Flowing (pipeOf c p .pod .input) (s ++ sentBytes (pipeOf c p .lent)) (flowAfter c f)
 unfolding pipeOf
 pipe-flows (byte b) p s f x = byte-flows (p .input) s f x b
 pipe-flows timeout p s f x = timeout-flows (p .input) s f x
 
 -- or none
 moved-flows : (m : Option PipeCall) (p : Pipe) (s : List ℕ) (f : Flow) → Flowing (p .input) s f
-    → Flowing (movedBy m p .pipe .input) (s ++ sentBytes (movedBy m p .sent)) (flowMoved m f)
+    → Flowing (movedBy m p .pod .input) (s ++ sentBytes (movedBy m p .lent)) (flowMoved m f)
 unfolding sentBytes sentPacket
 moved-flows none p s f x = rw (append-nil s) x
 moved-flows (some c) p s f x = pipe-flows c p s f x

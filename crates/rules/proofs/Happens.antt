@@ -21,12 +21,10 @@ use Rattle.rules.specs.declared.Pod.{Pod}
 use Rattle.rules.specs.State.{freshPod, storeIn, withTables, deskIn}
 use Rattle.rules.specs.Obey.{shut, checksOf, doneBy, obeyOf, acknowledgedOf}
 use Rattle.rules.specs.Refusals.{done}
-use Rattle.rules.specs.Families.{WordCall, wordOf, LoneCall}
+use Rattle.rules.specs.Families.{WordCall, wordOf, LoneCall, loneOf}
 use Rattle.rules.specs.Calls.{powerRows, powerCall, roomed, replied, packetHeard, replyBytes, spokenBytes, written, answered, packetRows, packetCall, putRows, shelved, putCall, wordRows, worded, wordCall, loneRows, reachOf, reached, loneCall, samplesRows, framed, samplesCall}
 use Rattle.rules.specs.World.{World, Call, power, packet, put, word, lone, samples, roomOf, Stepped, stepped, overTables, overRoom, overStore, overDesk, overSent, overFrames, step, rowsOf}
-use Rattle.rules.specs.History.{Touch, loneAs}
 use Rattle.rules.proofs.Stores.{store-same}
-use Rattle.rules.proofs.Lone.{touchOf, lone-is}
 
 -- ---- the effects, by their definitions
 
@@ -50,8 +48,8 @@ putting s b w = overStore s (given (shelved s b (storeIn s (w .lent)) (w .pod)))
 abbrev pub wording : WordCall → World → Stepped
 wording c w = overDesk (given (worded (wordOf c (w .pod .initialised) (w .pod .words) (deskIn (w .lent))) (w .pod))) w
 
-abbrev pub touching : Touch → World → Stepped
-touching t w = overSent (given (reached (touchOf t (reachOf (w .pod))) (w .pod))) w
+abbrev pub reaching : LoneCall → World → Stepped
+reaching c w = overSent (given (reached (loneOf c (reachOf (w .pod))) (w .pod))) w
 
 abbrev pub showing : ℕ → List ℕ → World → Stepped
 showing k xs w = overFrames (given (framed k xs (w .pod))) w
@@ -73,7 +71,7 @@ pub data Happens (w : World) : Call → Stepped → Type 0 where
       → Clear (checksOf c (w .pod)) → Happens w (packet b room) (obeying c room w)
   by-put : (s : Store) (b : List ℕ) → Clear (rowsOf w (put s b)) → Happens w (put s b) (putting s b w)
   by-word : (c : WordCall) → Clear (rowsOf w (word c)) → Happens w (word c) (wording c w)
-  by-lone : (c : LoneCall) → Clear (rowsOf w (lone c)) → Happens w (lone c) (touching (loneAs c) w)
+  by-lone : (c : LoneCall) → Clear (rowsOf w (lone c)) → Happens w (lone c) (reaching c w)
   by-samples : (k : ℕ) (xs : List ℕ) → Clear (rowsOf w (samples k xs)) → Happens w (samples k xs) (showing k xs w)
 
 -- no check looks at the exchange
@@ -116,7 +114,6 @@ happens w (put s b) =
     ran-case (λ o. Happens w (put s b) (overStore s o w)) (putRows s b (storeIn s (w .lent)) (w .pod))
     (λ n f. rw (store-same s (w .lent)) (by-rows (put s b) n f)) (by-put s b)
 happens w (word c) = ran-case (λ o. Happens w (word c) (overDesk o w)) (wordRows c (w .lent .tables) (w .pod)) (by-rows (word c)) (by-word c)
-happens w (lone c) =
-    rw (lone-is c (reachOf (w .pod))) (ran-case (λ o. Happens w (lone c) (overSent o w)) (loneRows c (w .pod)) (by-rows (lone c)) (by-lone c))
+happens w (lone c) = ran-case (λ o. Happens w (lone c) (overSent o w)) (loneRows c (w .pod)) (by-rows (lone c)) (by-lone c)
 happens w (samples k xs) =
     ran-case (λ o. Happens w (samples k xs) (overFrames o w)) (samplesRows k xs (w .pod)) (by-rows (samples k xs)) (by-samples k xs)

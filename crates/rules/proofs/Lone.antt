@@ -7,15 +7,14 @@ use mathlib.Core.Bool.{Bool, true, false, not, _&&_, cond, or-false}
 use mathlib.Core.List.{List, [], _∷_}
 use mathlib.Core.Option.{Option, none, some}
 use lib.Dec.{eqb}
-use Rattle.rows.specs.Rows.{Row, Out, out, rising, held}
+use Rattle.rows.specs.Rows.{Row, out, rising, held}
 use Rattle.rows.proofs.Bool.{never, and-false}
 use Rattle.pipe.specs.declared.Pipe.{Pipe}
-use Rattle.pipe.specs.declared.Sent.{Sent}
 use Rattle.pipe.specs.Input.{sentPacket, sentBytes}
 use Rattle.rules.specs.declared.Exchange.the-variants.{Closed}
 use Rattle.rules.specs.declared.Pod.{Pod}
-use Rattle.rules.specs.Refusals.{Giving, done, stateRow, asleepRow}
-use Rattle.rules.specs.Families.{PipeCall, Moved, pipeOf, LoneCall, deadline, pipe, Reach, reach, loneOf}
+use Rattle.rules.specs.Refusals.{stateRow, asleepRow}
+use Rattle.rules.specs.Families.{PipeCall, Sends, pipeOf, LoneCall, deadline, pipe, Reach, reach, loneOf}
 use Rattle.rules.specs.Calls.{loneRows}
 use Rattle.rules.specs.Numbered.{isPipe}
 use Rattle.rules.specs.History.{Touch, loneAs}
@@ -44,13 +43,13 @@ held-if n false p = rw (and-false (eqb n 6))
 -- ---- its effect
 
 -- the pipe after the pipe call that it is, if any
-abbrev pub movedBy : Option PipeCall → Pipe → Moved
-movedBy none i = record { pipe = i; sent = sentPacket [] }
+abbrev pub movedBy : Option PipeCall → Pipe → Sends Pipe
+movedBy none i = out tt i (sentPacket [])
 movedBy (some c) i = pipeOf c i
 
--- what the history takes it for, done
-abbrev pub touchOf : Touch → Reach → Out Giving Reach Sent
-touchOf t r = let m = movedBy (t .moves) (r .pipe) in out done (reach (cond (t .closes) Closed (r .exchange)) (m .pipe)) (m .sent)
+-- what the history takes it for
+abbrev pub touchOf : Touch → Reach → Sends Reach
+touchOf t r = let o = movedBy (t .moves) (r .pipe) in out tt (reach (cond (t .closes) Closed (r .exchange)) (o .pod)) (o .lent)
 
 pub lone-is : (c : LoneCall) (r : Reach) → loneOf c r ≡ touchOf (loneAs c) r
 unfolding loneOf
@@ -58,7 +57,7 @@ lone-is deadline r = refl
 lone-is (pipe c) r = refl
 
 -- none but a pipe call sends
-pub unsent : (m : Option PipeCall) (i : Pipe) → isMove m ≡ false → sentBytes (movedBy m i .sent) ≡ []
+pub unsent : (m : Option PipeCall) (i : Pipe) → isMove m ≡ false → sentBytes (movedBy m i .lent) ≡ []
 unfolding sentBytes sentPacket
 unsent none i e = refl
 unsent (some c) i e = never refl e

@@ -40,7 +40,7 @@ use Rattle.rules.specs.Calls.{reachOf, reached, answered}
 use Rattle.rules.specs.World.{World, world, Call, power, Stepped, next, powered}
 use Rattle.rules.specs.History.{Touch, loneAs}
 use Rattle.rules.specs.Demands.{KeptSound}
-use Rattle.rules.proofs.Lone.{movedBy, touchOf}
+use Rattle.rules.proofs.Lone.{movedBy, touchOf, lone-is}
 use Rattle.rules.proofs.Happens.{Happens, by-rows, by-power, by-empty, by-damage, by-acknowledgement, by-check, by-command, by-put, by-word, by-lone, by-samples, checks-shut, happens}
 use Rattle.rules.proofs.Fits.{put-fits}
 use Rattle.rules.proofs.Inside.{PodIn, in-pod, pod-in, ring-in, off-still, in-shut, in-open, in-fields, in-params, in-ring, in-pipe, in-words, in-sleep, anew-in, fresh-in}
@@ -110,13 +110,13 @@ word-in status d {p} h =
     in-words h _ (both-sound _ (sound-places (p .words) (h .words)) (sound-transfer (p .words) (h .words))) (λ off. off-still p h off)
 
 -- a pipe call
-pub pipe-sound : (c : PipeCall) (i : Pipe) → soundPipe i ≡ true → soundPipe (pipeOf c i .pipe) ≡ true
+pub pipe-sound : (c : PipeCall) (i : Pipe) → soundPipe i ≡ true → soundPipe (pipeOf c i .pod) ≡ true
 unfolding pipeOf soundPipe
 pipe-sound (byte b) i h = byte-sound (i .input) b h
 pipe-sound timeout i h = timeout-sound (i .input) h
 
 -- a call that is lent nothing
-moved-sound : (m : Option PipeCall) (i : Pipe) → soundPipe i ≡ true → soundPipe (movedBy m i .pipe) ≡ true
+moved-sound : (m : Option PipeCall) (i : Pipe) → soundPipe i ≡ true → soundPipe (movedBy m i .pod) ≡ true
 moved-sound unmoved i h = h
 moved-sound (some c) i h = pipe-sound c i h
 
@@ -124,8 +124,8 @@ closed-in : (b : Bool) {p : Pod} → PodIn p → PodIn (withExchange (cond b Clo
 closed-in true h = in-shut h
 closed-in false h = h
 
-lone-in : (t : Touch) {p : Pod} → PodIn p → PodIn (reached (touchOf t (reachOf p)) p .pod)
-lone-in t {p} h = in-pipe (closed-in (t .closes) h) _ (moved-sound (t .moves) (p .pipe) (h .pipe))
+touch-in : (t : Touch) {p : Pod} → PodIn p → PodIn (reached (touchOf t (reachOf p)) p .pod)
+touch-in t {p} h = in-pipe (closed-in (t .closes) h) _ (moved-sound (t .moves) (p .pipe) (h .pipe))
 
 -- ---- every call
 
@@ -141,7 +141,7 @@ step-in {w} (by-command b room c k e q) h =
     command-in c (w .lent) (shut (w .pod)) (rw (← checks-shut c (w .pod)) at q) refl (in-shut h)
 step-in {w} (by-put s b k) h = in-ring h s _ (put-sound (capacityOf s) (ringOf s (w .pod)) (ring-in h s) (put-fits s b w k .free))
 step-in {w} (by-word c k) h = word-in c (deskIn (w .lent)) h
-step-in (by-lone c k) h = lone-in (loneAs c) h
+step-in {w} (by-lone c k) h = rw (lone-is c (reachOf (w .pod))) (touch-in (loneAs c) h)
 step-in (by-samples k xs q) h = h
 
 -- so the test of the bounds passes after every call that it passed before

@@ -23,7 +23,7 @@ use Rattle.rules.specs.declared.Pod.{Pod}
 use Rattle.rules.specs.State.{Lent, storeIn, withExchange, withWords, withRing, withPipe, ringOf, freshPod}
 use Rattle.rules.specs.Obey.{Meant, success, report, value, block, shut, obeyOf, acknowledgedOf, reportOf}
 use Rattle.rules.specs.Refusals.{Giving, done, bytes, Out, roomRow, allRow, storeRow, tablesRow, stateRow, blockRow, setRow, overRow, asleepRow, fullRow}
-use Rattle.rules.specs.Families.{WordCall, wordOf, wordLent, LoneCall, deadline, pipe, Reach, reach, loneOf}
+use Rattle.rules.specs.Families.{WordCall, wordOf, wordLent, Sends, LoneCall, deadline, pipe, Reach, reach, loneOf}
 
 -- ---- power on: lent the tables
 
@@ -120,8 +120,8 @@ loneRows (pipe c) p = stateRow p ∷ asleepRow p ∷ []
 abbrev pub reachOf : Pod → Reach
 reachOf p = reach (p .exchange) (p .pipe)
 
-abbrev pub reached : Left Giving Reach Sent → Pod → Left Giving Pod Sent
-reached o p = out (o .said) (withPipe (o .pod .pipe) (withExchange (o .pod .exchange) p)) (o .lent)
+abbrev pub reached : Sends Reach → Pod → Left Giving Pod Sent
+reached o p = out done (withPipe (o .pod .pipe) (withExchange (o .pod .exchange) p)) (o .lent)
 
 unfoldable pub loneCall : LoneCall → Pod → Out Sent
 loneCall c p = ran (loneRows c p) p (sentPacket []) (reached (loneOf c (reachOf p)) p)

@@ -52,16 +52,15 @@ pub data PipeCall : Type 0 where
   byte : ℕ → PipeCall
   timeout : PipeCall
 
--- the pipe after a call, and what it sends
-pub record Moved : Type 0 where
-  pub pipe : Pipe
-  pub sent : Sent
+-- a call that gives back at most what the pipe sends says done, and its effect nothing: `tt`
+abbrev pub Sends : Type 0 → Type 0
+Sends P = Out (Unit {0}) P Sent
 
 -- what the input half makes of a call
-abbrev pub inputMoved : Piped → Pipe → Moved
-inputMoved q p = record { pipe = record { input = q .input }; sent = q .sent }
+abbrev pub inputMoved : Piped → Pipe → Sends Pipe
+inputMoved q p = out tt (record { input = q .input }) (q .sent)
 
-unfoldable pub pipeOf : PipeCall → Pipe → Moved
+unfoldable pub pipeOf : PipeCall → Pipe → Sends Pipe
 pipeOf (byte b) p = inputMoved (pipeByte (p .input) b) p
 pipeOf timeout p = inputMoved (pipeTimeout (p .input)) p
 
@@ -79,7 +78,7 @@ pub record Reach : Type 0 where
 abbrev pub reach : Exchange → Pipe → Reach
 reach x i = record { exchange = x; pipe = i }
 
-unfoldable pub loneOf : LoneCall → Reach → Out Giving Reach Sent
+unfoldable pub loneOf : LoneCall → Reach → Sends Reach
 -- "So does the deadline call (2 ms passed)": it closes an open exchange, keeping the block
-loneOf deadline r = out done (reach Closed (r .pipe)) (sentPacket [])
-loneOf (pipe c) r = let m = pipeOf c (r .pipe) in out done (reach (r .exchange) (m .pipe)) (m .sent)
+loneOf deadline r = out tt (reach Closed (r .pipe)) (sentPacket [])
+loneOf (pipe c) r = let o = pipeOf c (r .pipe) in out tt (reach (r .exchange) (o .pod)) (o .lent)
