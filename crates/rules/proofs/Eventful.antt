@@ -45,7 +45,7 @@ Waits x p = WaitsIn x (p .priority) (p .ordinary) (p .fields)
 abbrev pub obeyedIn : Command → World → World
 obeyedIn c w = let o = doneBy c (w .lent) (shut (w .pod)) in world (o .pod) (o .lent)
 
--- what is done by a call that is lent nothing, by what the history takes it for
+-- a call that is lent nothing, by what the history takes it for
 abbrev touching : Touch → World → Stepped
 touching t w = overSent (given (reached (touchOf t (reachOf (w .pod))) (w .pod))) w
 

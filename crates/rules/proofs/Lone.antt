@@ -1,5 +1,4 @@
--- The calls that are lent nothing: two laws of each, its rows by document 01's table and its effect by the history. All else of them follows
--- from these.
+-- The calls that are lent nothing: two laws of each, its rows by document 01's table and its effect by the history. The rest follows.
 -- Assumes nothing.
 use Prim.Native.Nat.{ℕ}
 use mathlib.Core.Path.{_≡_, refl}
@@ -47,7 +46,7 @@ abbrev pub movedBy : Option PipeCall → Pipe → Sends Pipe
 movedBy none i = out tt i (sentPacket [])
 movedBy (some c) i = pipeOf c i
 
--- what the history takes it for
+-- the effect of what the history takes it for
 abbrev pub touchOf : Touch → Reach → Sends Reach
 touchOf t r = let o = movedBy (t .moves) (r .pipe) in out tt (reach (cond (t .closes) Closed (r .exchange)) (o .pod)) (o .lent)
 

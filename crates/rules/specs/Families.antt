@@ -1,5 +1,4 @@
--- Calls that touch few parts of the pod: the table words, and the calls that are lent nothing, each over those parts and what it is lent
--- alone.
+-- Families of calls, each over the parts of the pod that it touches and what it is lent alone: table words, and calls lent nothing.
 -- Assumes nothing.
 use Prim.Native.Nat.{ℕ}
 use mathlib.Core.Bool.{Bool}
@@ -52,7 +51,7 @@ pub data PipeCall : Type 0 where
   byte : ℕ → PipeCall
   timeout : PipeCall
 
--- a call that gives back at most what the pipe sends says done, and its effect nothing: `tt`
+-- an effect that gives back no more than what it sends: the call says done
 abbrev pub Sends : Type 0 → Type 0
 Sends P = Out (Unit {0}) P Sent
 
@@ -64,13 +63,13 @@ unfoldable pub pipeOf : PipeCall → Pipe → Sends Pipe
 pipeOf (byte b) p = inputMoved (pipeByte (p .input) b) p
 pipeOf timeout p = inputMoved (pipeTimeout (p .input)) p
 
--- ---- the calls that are lent nothing, and give back at most what the pipe sends
+-- ---- the calls that are lent nothing, and give back no more than what the pipe sends
 
 pub data LoneCall : Type 0 where
   deadline : LoneCall
   pipe : PipeCall → LoneCall
 
--- all of the pod that such a call can see or touch
+-- all of the pod that such a call sees and touches
 pub record Reach : Type 0 where
   pub exchange : Exchange
   pub pipe : Pipe

@@ -22,6 +22,7 @@ givesNumber (word status) = true
 givesNumber (lone c) = false
 givesNumber (samples k xs) = false
 
+-- a pipe call, or none
 abbrev pub isMove : Option PipeCall → Bool
 isMove none = false
 isMove (some c) = true

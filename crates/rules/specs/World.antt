@@ -28,7 +28,7 @@ world p l = record { pod = p; lent = l }
 abbrev pub withPod : Pod → World → World
 withPod p w = world p (w .lent)
 
--- a call, with what it brings; calls that touch few parts of the pod are a family
+-- a call, with what it brings; the table words, and the calls that are lent nothing, are a family each
 pub data Call : Type 0 where
   power : Call
   -- a packet, and the answer room
