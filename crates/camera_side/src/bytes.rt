@@ -11,16 +11,17 @@ use rules::Pod;
 use rules::Refusal;
 ghost use mathlib.Core.Path.{_≡_};
 ghost use mathlib.Core.List.{[]};
-ghost use Rattle.rows.specs.Rows.{refused, out, given};
+ghost use Rattle.rows.specs.Rows.{refused, gave, out};
 ghost use Rattle.pipe.specs.Input.{sentPacket};
-ghost use Rattle.rules.specs.Refusals.{refusalNumber, answerSaid};
-ghost use Rattle.rules.specs.Families.{PipeCall, byte, timeout, inputMoved};
-ghost use Rattle.rules.specs.Calls.{pipeRows, passed, pipeCall};
+ghost use Rattle.rules.specs.State.{withPipe};
+ghost use Rattle.rules.specs.Refusals.{done, refusalNumber, answerSaid};
+ghost use Rattle.rules.specs.Families.{PipeCall, byte, timeout, inputMoved, pipe};
+ghost use Rattle.rules.specs.Calls.{loneRows, loneCall};
 ghost use Rattle.gates.specs.Gates.{Gated};
 
 // The rows of every pipe call.
 fn pipe_gate(pod: Pod) -> Gate
-    ensures { λ r. ⌜ ((c : PipeCall) → Gated r (pipeRows c pod)) ⌝ }
+    ensures { λ r. ⌜ ((c : PipeCall) → Gated r (loneRows (pipe c) pod)) ⌝ }
 {
     if !sound(pod) {
         return Gate::Shut(Refusal::State);
@@ -46,7 +47,7 @@ fn unpassed(pod: Pod, why: Refusal) -> Passed
 }
 
 fn passed(pod: Pod, piped: Piped) -> Passed
-    ensures { λ r. ⌜ out (answerSaid (r .answer)) (r .pod) (r .sent) ≡ given (passed (inputMoved piped (pod .pipe)) pod) ⌝ }
+    ensures { λ r. ⌜ out (answerSaid (r .answer)) (r .pod) (r .sent) ≡ out (gave done) (withPipe (inputMoved piped (pod .pipe) .pod) pod) (piped .sent) ⌝ }
 {
     let sent = piped.sent;
     let input = piped.input;
@@ -59,7 +60,7 @@ fn passed(pod: Pod, piped: Piped) -> Passed
 
 // A byte from the camera; the eighth sends all eight.
 pub fn pipe_byte(pod: Pod, b: u8) -> Passed
-    ensures { λ r. ⌜ out (answerSaid (r .answer)) (r .pod) (r .sent) ≡ pipeCall (byte b) pod ⌝ }
+    ensures { λ r. ⌜ out (answerSaid (r .answer)) (r .pod) (r .sent) ≡ loneCall (pipe (byte b)) pod ⌝ }
 {
     let gate = pipe_gate(pod);
     match gate {
@@ -73,7 +74,7 @@ pub fn pipe_byte(pod: Pod, b: u8) -> Passed
 
 // What is gathered goes as a short packet.
 pub fn pipe_timeout(pod: Pod) -> Passed
-    ensures { λ r. ⌜ out (answerSaid (r .answer)) (r .pod) (r .sent) ≡ pipeCall timeout pod ⌝ }
+    ensures { λ r. ⌜ out (answerSaid (r .answer)) (r .pod) (r .sent) ≡ loneCall (pipe timeout) pod ⌝ }
 {
     let gate = pipe_gate(pod);
     match gate {

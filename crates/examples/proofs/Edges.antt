@@ -16,8 +16,8 @@ use Rattle.tables.specs.Tables.{listed, startTable, tablesSized}
 use Rattle.pipe.specs.Input.{sentPacket, sentBytes, emptyInput, freshInput, pipeByte, soundInput}
 use Rattle.pipe.specs.Pipe.{freshPipe, soundPipe}
 use Rattle.frames.specs.Samples.{boundedOf}
-use Rattle.rules.specs.Calls.{powerCall, packetHeard, meantBody, replyBytes, spokenBytes, answered, packetCall, deadlineCall, putCall, wordCall, pipeCall, samplesCall}
-use Rattle.rules.specs.Families.{wordOf, wordLent, pipeOf}
+use Rattle.rules.specs.Calls.{powerCall, packetHeard, meantBody, replyBytes, spokenBytes, answered, packetCall, putCall, wordCall, loneCall, samplesCall}
+use Rattle.rules.specs.Families.{wordOf, wordLent}
 use Rattle.rules.specs.Obey.{checksOf, initialisedPod, doneBy, obeyOf}
 use Rattle.examples.specs.Shown.{justInitialised}
 use Rattle.rules.specs.State.{freshFields, freshPod, restful, soundPod}
@@ -25,5 +25,5 @@ use Rattle.rules.specs.World.{step}
 use Rattle.examples.specs.Edges.{Edges}
 
 pub all-edges : Edges
-unfolding ran poly leaving bitIn bits bitsIn crcFrom crcOf withCrc answerOf fieldBytes bodyOf commandBytes laidOut numbersAt fieldsOf fieldsIn fieldsBounded findIn listedIn codeRow isCode commandPlace commandRow highFirst numberOf numberAt crcRight acknowledges packetRead isId inRows soundParams startParams storeSized soundRing putRing soundPlaces soundTransfer soundWords startWords statusOf listed startTable tablesSized sentPacket sentBytes emptyInput freshInput pipeByte soundInput freshPipe soundPipe boundedOf powerCall packetHeard meantBody replyBytes spokenBytes answered packetCall deadlineCall putCall wordCall pipeCall samplesCall wordOf wordLent pipeOf checksOf initialisedPod doneBy obeyOf justInitialised freshFields freshPod restful soundPod step
+unfolding ran poly leaving bitIn bits bitsIn crcFrom crcOf withCrc answerOf fieldBytes bodyOf commandBytes laidOut numbersAt fieldsOf fieldsIn fieldsBounded findIn listedIn codeRow isCode commandPlace commandRow highFirst numberOf numberAt crcRight acknowledges packetRead isId inRows soundParams startParams storeSized soundRing putRing soundPlaces soundTransfer soundWords startWords statusOf listed startTable tablesSized sentPacket sentBytes emptyInput freshInput pipeByte soundInput freshPipe soundPipe boundedOf powerCall packetHeard meantBody replyBytes spokenBytes answered packetCall putCall wordCall loneCall samplesCall wordOf wordLent checksOf initialisedPod doneBy obeyOf justInitialised freshFields freshPod restful soundPod step
 all-edges = refl

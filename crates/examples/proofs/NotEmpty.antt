@@ -34,14 +34,14 @@ use Rattle.pipe.specs.Pipe.{freshPipe, soundPipe}
 use Rattle.frames.specs.Fields.{placed, frame}
 use Rattle.frames.specs.Layout.{lines03, lines47, framesOf}
 use Rattle.frames.specs.Samples.{sampleAt, sumOf, averageOf, averagesOf, boundedOf}
-use Rattle.rules.specs.Calls.{powerCall, packetHeard, meantBody, replyBytes, spokenBytes, answered, packetCall, deadlineCall, putCall, wordCall, pipeCall, samplesCall}
-use Rattle.rules.specs.Families.{WordCall, command, dataIn, dataOut, status, byte, timeout, wordOf, wordLent, pipeOf}
+use Rattle.rules.specs.Calls.{powerCall, packetHeard, meantBody, replyBytes, spokenBytes, answered, packetCall, putCall, wordCall, loneCall, samplesCall}
+use Rattle.rules.specs.Families.{WordCall, command, dataIn, dataOut, status, byte, timeout, wordOf, wordLent, pipeOf, deadline, pipe, loneOf}
 use Rattle.rules.specs.History.{succeeded, errored, eventOf, events}
 use Rattle.rules.specs.Obey.{checksOf, initialisedPod, doneBy, obeyOf, matches, dropFrom, settled, acknowledgedOf, reportOf}
 use Rattle.examples.specs.Shown.{order, loading, reading, load, justInitialised}
 use Rattle.rules.specs.State.{freshFields, freshPod, restful, soundPod}
 use Rattle.rules.specs.Transfers.{Loads, Loading, Reads, cutsLoad, cutsRead, cuts, leftOpen, writtenIn, readsIn}
-use Rattle.rules.specs.World.{World, Call, power, packet, deadline, put, word, pipe, samples, Told, next, step, final, tells}
+use Rattle.rules.specs.World.{World, Call, power, packet, put, word, lone, samples, Told, next, step, final, tells}
 use Rattle.rules.specs.Pairs.{Accepts, ShutsDown, Seen, seenIn, Asleep}
 use Rattle.rules.specs.Checks.{damaged}
 use Rattle.examples.specs.Edges.{Edges}
@@ -88,7 +88,7 @@ seenBoth on =
 abbrev between : List Call → List Call → List Call → List Call
 between a b c =
     (asks asked.Status ∷ a) ++ (packet (0x91 ∷ []) (replicate 260 0) ∷ packet [] [] ∷ asks (asked.Initialise unfit) ∷ b)
-    ++ (put Priority [] ∷ put Priority (replicate 256 7) ∷ deadline ∷ word status ∷ pipe (byte 1) ∷ pipe timeout ∷ samples 0 (replicate 128 0) ∷ c)
+    ++ (put Priority [] ∷ put Priority (replicate 256 7) ∷ lone deadline ∷ word status ∷ lone (pipe (byte 1)) ∷ lone (pipe timeout) ∷ samples 0 (replicate 128 0) ∷ c)
 
 abbrev amidLoad : List Call
 amidLoad = between (loading (5 ∷ [])) (loading (63 ∷ [])) (loading (1 ∷ []))
@@ -144,7 +144,7 @@ pub record NotEmpty : Type 0 where
   pub numbers : Edges
 
 pub not-empty : NotEmpty
-unfolding ones ran poly leaving bitIn bits bitsIn crcFrom crcOf withCrc answerOf errorAnswer statusBody valueBody fieldBytes bodyOf commandBytes laidOut numbersAt fieldsOf fieldsIn fieldsBounded findIn listedIn codeRow isCode commandPlace commandRow highFirst numberOf numberAt signedOf unsignedOf crcRight acknowledges packetRead isId inRows soundParams startParams writeAllowed filter missingIds missingOf storeSized soundRing placeBehind blockAt blocksFrom blocksIn oldestOf putRing putStore droppedRing soundPlaces soundTransfer soundWords oddOnes partsOf orderOf orderHeard startWords closeOf readOpenedAt readOpened restarted orderObeyed tablesAfter commandOf wrongWay loadRight storedIn loadJudged loadOf wordTaken dataInOf readWord readNext wordGiven dataOutOf statusOf listed startTable tablesSized heldIn sentPacket sentBytes emptyInput freshInput gathers pipeByte countUp pipeTimeout soundInput gatheringOf freshPipe soundPipe placed frame lines03 lines47 framesOf sampleAt sumOf averageOf averagesOf boundedOf powerCall packetHeard meantBody replyBytes spokenBytes answered packetCall deadlineCall putCall wordCall pipeCall samplesCall wordOf wordLent pipeOf succeeded errored eventOf events checksOf initialisedPod doneBy obeyOf matches dropFrom settled acknowledgedOf reportOf justInitialised freshFields freshPod restful soundPod cuts leftOpen writtenIn readsIn step final tells
+unfolding ones ran poly leaving bitIn bits bitsIn crcFrom crcOf withCrc answerOf errorAnswer statusBody valueBody fieldBytes bodyOf commandBytes laidOut numbersAt fieldsOf fieldsIn fieldsBounded findIn listedIn codeRow isCode commandPlace commandRow highFirst numberOf numberAt signedOf unsignedOf crcRight acknowledges packetRead isId inRows soundParams startParams writeAllowed filter missingIds missingOf storeSized soundRing placeBehind blockAt blocksFrom blocksIn oldestOf putRing putStore droppedRing soundPlaces soundTransfer soundWords oddOnes partsOf orderOf orderHeard startWords closeOf readOpenedAt readOpened restarted orderObeyed tablesAfter commandOf wrongWay loadRight storedIn loadJudged loadOf wordTaken dataInOf readWord readNext wordGiven dataOutOf statusOf listed startTable tablesSized heldIn sentPacket sentBytes emptyInput freshInput gathers pipeByte countUp pipeTimeout soundInput gatheringOf freshPipe soundPipe placed frame lines03 lines47 framesOf sampleAt sumOf averageOf averagesOf boundedOf powerCall packetHeard meantBody replyBytes spokenBytes answered packetCall putCall wordCall loneCall samplesCall wordOf wordLent pipeOf loneOf succeeded errored eventOf events checksOf initialisedPod doneBy obeyOf matches dropFrom settled acknowledgedOf reportOf justInitialised freshFields freshPod restful soundPod cuts leftOpen writtenIn readsIn step final tells
 not-empty =
     let busy-seen : seenIn busy ≡ seenBoth true = refl in
     let other-seen : seenIn other ≡ seenBoth true = refl in

@@ -21,8 +21,8 @@ use Rattle.pipe.specs.Pipe.{freshPipe, soundPipe}
 use Rattle.frames.specs.Fields.{placed, frame}
 use Rattle.frames.specs.Layout.{lines03, lines47, framesOf}
 use Rattle.frames.specs.Samples.{sampleAt, sumOf, averageOf, averagesOf, boundedOf}
-use Rattle.rules.specs.Calls.{powerCall, packetHeard, meantBody, replyBytes, spokenBytes, answered, packetCall, deadlineCall, putCall, wordCall, pipeCall, samplesCall}
-use Rattle.rules.specs.Families.{wordOf, wordLent, pipeOf}
+use Rattle.rules.specs.Calls.{powerCall, packetHeard, meantBody, replyBytes, spokenBytes, answered, packetCall, putCall, wordCall, loneCall, samplesCall}
+use Rattle.rules.specs.Families.{wordOf, wordLent, pipeOf, loneOf}
 use Rattle.rules.specs.Obey.{checksOf, initialisedPod, doneBy, obeyOf, matches, dropFrom, settled, acknowledgedOf, reportOf}
 use Rattle.examples.specs.Shown.{justInitialised, Shown}
 use Rattle.rules.specs.State.{freshFields, freshPod, restful, soundPod}
@@ -30,11 +30,11 @@ use Rattle.rules.specs.World.{step, final, tells}
 use Rattle.examples.specs.Computed.{Computed, Conversation}
 
 pub all-shown : Shown
-unfolding flatten ones ran poly leaving bitIn bits bitsIn crcFrom crcOf withCrc answerOf errorAnswer fieldBytes bodyOf commandBytes laidOut numbersAt fieldsOf fieldsIn fieldsBounded findIn listedIn codeRow isCode commandPlace commandRow highFirst numberOf numberAt crcRight acknowledges packetRead isId inRows soundParams startParams storeSized soundRing soundPlaces soundTransfer soundWords oddOnes partsOf orderOf orderHeard startWords closeOf readOpenedAt readOpened restarted orderObeyed tablesAfter commandOf wrongWay loadRight storedIn loadJudged loadOf wordTaken dataInOf readWord readNext wordGiven dataOutOf statusOf listed startTable tablesSized heldIn sentPacket sentBytes emptyInput freshInput gathers pipeByte countUp pipeTimeout soundInput gatheringOf freshPipe soundPipe placed frame lines03 lines47 framesOf sampleAt sumOf averageOf averagesOf boundedOf powerCall packetHeard meantBody replyBytes spokenBytes answered packetCall wordCall pipeCall samplesCall wordOf wordLent pipeOf checksOf initialisedPod doneBy obeyOf matches settled acknowledgedOf justInitialised freshFields freshPod restful soundPod step final tells
+unfolding flatten ones ran poly leaving bitIn bits bitsIn crcFrom crcOf withCrc answerOf errorAnswer fieldBytes bodyOf commandBytes laidOut numbersAt fieldsOf fieldsIn fieldsBounded findIn listedIn codeRow isCode commandPlace commandRow highFirst numberOf numberAt crcRight acknowledges packetRead isId inRows soundParams startParams storeSized soundRing soundPlaces soundTransfer soundWords oddOnes partsOf orderOf orderHeard startWords closeOf readOpenedAt readOpened restarted orderObeyed tablesAfter commandOf wrongWay loadRight storedIn loadJudged loadOf wordTaken dataInOf readWord readNext wordGiven dataOutOf statusOf listed startTable tablesSized heldIn sentPacket sentBytes emptyInput freshInput gathers pipeByte countUp pipeTimeout soundInput gatheringOf freshPipe soundPipe placed frame lines03 lines47 framesOf sampleAt sumOf averageOf averagesOf boundedOf powerCall packetHeard meantBody replyBytes spokenBytes answered packetCall wordCall loneCall samplesCall wordOf wordLent pipeOf loneOf checksOf initialisedPod doneBy obeyOf matches settled acknowledgedOf justInitialised freshFields freshPod restful soundPod step final tells
 all-shown x = refl
 
 pub all-computed : Computed
-unfolding flatten ones ran poly leaving bitIn bits bitsIn crcFrom crcOf withCrc answerOf errorAnswer fieldBytes bodyOf commandBytes laidOut numbersAt fieldsOf fieldsIn fieldsBounded findIn listedIn codeRow isCode commandPlace commandRow highFirst numberOf numberAt crcRight acknowledges packetRead isId inRows soundParams startParams storeSized soundRing soundPlaces soundTransfer soundWords oddOnes partsOf orderOf orderHeard startWords closeOf readOpenedAt readOpened restarted orderObeyed tablesAfter commandOf wrongWay loadRight storedIn loadJudged loadOf wordTaken dataInOf readWord readNext wordGiven dataOutOf statusOf listed startTable tablesSized heldIn sentPacket sentBytes emptyInput freshInput gathers pipeByte countUp pipeTimeout soundInput gatheringOf freshPipe soundPipe placed frame lines03 lines47 framesOf sampleAt sumOf averageOf averagesOf boundedOf powerCall packetHeard meantBody replyBytes spokenBytes answered packetCall deadlineCall wordCall pipeCall samplesCall wordOf wordLent pipeOf checksOf initialisedPod doneBy obeyOf justInitialised freshFields freshPod restful soundPod step final tells
+unfolding flatten ones ran poly leaving bitIn bits bitsIn crcFrom crcOf withCrc answerOf errorAnswer fieldBytes bodyOf commandBytes laidOut numbersAt fieldsOf fieldsIn fieldsBounded findIn listedIn codeRow isCode commandPlace commandRow highFirst numberOf numberAt crcRight acknowledges packetRead isId inRows soundParams startParams storeSized soundRing soundPlaces soundTransfer soundWords oddOnes partsOf orderOf orderHeard startWords closeOf readOpenedAt readOpened restarted orderObeyed tablesAfter commandOf wrongWay loadRight storedIn loadJudged loadOf wordTaken dataInOf readWord readNext wordGiven dataOutOf statusOf listed startTable tablesSized heldIn sentPacket sentBytes emptyInput freshInput gathers pipeByte countUp pipeTimeout soundInput gatheringOf freshPipe soundPipe placed frame lines03 lines47 framesOf sampleAt sumOf averageOf averagesOf boundedOf powerCall packetHeard meantBody replyBytes spokenBytes answered packetCall wordCall loneCall samplesCall wordOf wordLent pipeOf loneOf checksOf initialisedPod doneBy obeyOf justInitialised freshFields freshPod restful soundPod step final tells
 all-computed x y z = refl
 
 pub conversed : Conversation

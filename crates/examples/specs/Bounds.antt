@@ -18,7 +18,8 @@ use Rattle.tables.specs.Port.{header, startWords, withPlaces, withTransfer}
 use Rattle.rules.specs.declared.Exchange.the-variants as exchange
 use Rattle.rules.specs.declared.Pod.{Pod}
 use Rattle.rules.specs.State.{freshPod, withInitialised, withFields, withParams, withExchange, withWords, withRing, withPipe}
-use Rattle.rules.specs.World.{World, world, withPod, packet, deadline, samples, isAnswered}
+use Rattle.rules.specs.Families.{deadline}
+use Rattle.rules.specs.World.{World, world, withPod, packet, lone, samples, isAnswered}
 use Rattle.rules.specs.Demands.{justPowered}
 use Rattle.examples.specs.Shown.{ComputedLine, line, AsExpected}
 use Rattle.examples.specs.Edges.{refusalIn}
@@ -45,7 +46,7 @@ asleep f = withPod (f freshPod) justPowered
 abbrev pub valued : ℕ → List ℤ → List ℕ
 valued id vs =
     map (λ (v : ℤ). oneIf (writeAllowed startParams id v)) vs
-    ++ map (λ (v : ℤ). oneIf (isAnswered (bent (withParams (stored startParams id v))) deadline)) vs
+    ++ map (λ (v : ℤ). oneIf (isAnswered (bent (withParams (stored startParams id v))) (lone deadline))) vs
 
 -- by id: one below the least, the least, the most, one above; "parameter 1 below parameter 2" ends the first two sooner
 abbrev pub valuesBounded : List ComputedLine
@@ -152,9 +153,9 @@ lending a b c d e =
 -- the table
 abbrev pub bounds : List ComputedLine
 bounds =
-    map (λ (f : Pod → Pod). line (refusalIn (bent f) deadline) []) (kept ++ wakeful)
-    ++ map (λ (f : Pod → Pod). line (refusalIn (bent f) deadline) (3 ∷ [])) onePast
-    ++ map (λ (f : Pod → Pod). line (refusalIn (asleep f) deadline) (3 ∷ [])) wakeful
+    map (λ (f : Pod → Pod). line (refusalIn (bent f) (lone deadline)) []) (kept ++ wakeful)
+    ++ map (λ (f : Pod → Pod). line (refusalIn (bent f) (lone deadline)) (3 ∷ [])) onePast
+    ++ map (λ (f : Pod → Pod). line (refusalIn (asleep f) (lone deadline)) (3 ∷ [])) wakeful
     -- 2: "a lent store or table is not its exact size"
     ++ (line (refusalIn (lending 4096 32768 64 128 64) (packet [] (replicate 260 0))) []
     ∷ map (λ (w : World). line (refusalIn w (packet [] (replicate 260 0))) (2 ∷ []))

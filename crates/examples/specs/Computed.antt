@@ -10,8 +10,8 @@ use Rattle.blocks.specs.declared.Store.the-variants.{Priority, Ordinary}
 use Rattle.tables.specs.Tables.{three, listed}
 use Rattle.rules.specs.State.{Lent, freshPod}
 use Rattle.rules.specs.Refusals.{done}
-use Rattle.rules.specs.Families.{status, PipeCall, byte, timeout}
-use Rattle.rules.specs.World.{world, Call, power, packet, deadline, put, word, pipe, samples, Told, told, answering, step, final, tells}
+use Rattle.rules.specs.Families.{status, PipeCall, byte, timeout, deadline, pipe}
+use Rattle.rules.specs.World.{world, Call, power, packet, put, word, lone, samples, Told, told, answering, step, final, tells}
 use Rattle.examples.specs.Shown.{justInitialised, wordsOut, statusAfter, fiveAfter, order, loading, reading, load, read, ComputedLine, line, AsExpected}
 
 -- a Shutdown
@@ -24,10 +24,10 @@ shows = word status ∷ []
 
 -- bytes for the pipe, and what a call of it then sends
 abbrev pub bytesIn : List ℕ → List Call
-bytesIn bs = map (λ (b : ℕ). pipe (byte b)) bs
+bytesIn bs = map (λ (b : ℕ). lone (pipe (byte b))) bs
 
 abbrev pub sentAfter : List Call → PipeCall → List ℕ
-sentAfter cs c = step (final justInitialised cs) (pipe c) .told .bytes
+sentAfter cs c = step (final justInitialised cs) (lone (pipe c)) .told .bytes
 
 -- the two frames after some calls, of a self-check number and the samples 0 to 127: channel c averages 60 + c
 abbrev pub framesShown : List Call → ℕ → List ℕ
@@ -66,8 +66,8 @@ computed x y z =
     ∷ line (wordsOut (reading 1 ++ read ++ order 0x8201 ++ loading (3 ∷ []) ++ read)) (0 ∷ 5 ∷ 0 ∷ 1 ∷ 0 ∷ 5 ∷ 3 ∷ 1 ∷ 0 ∷ [])
     -- FramesAreHistory: awake; with a byte gathered, a deadline past; and both asleep
     ∷ line (framesShown [] 0) (framesWith 0 4 0)
-    ∷ line (framesShown (pipe (byte 9) ∷ deadline ∷ []) 5) (framesWith 128 4 20)
-    ∷ line (framesShown (pipe (byte 9) ∷ off) 0) (framesWith 128 0 0)
+    ∷ line (framesShown (lone (pipe (byte 9)) ∷ lone deadline ∷ []) 5) (framesWith 128 4 20)
+    ∷ line (framesShown (lone (pipe (byte 9)) ∷ off) 0) (framesWith 128 0 0)
     ∷ line (framesShown off 5) (framesWith 0 0 20)
     -- "its sum divided by 16, rounded down": sums of 15 give 0
     ∷ line (step justInitialised (samples 0 (replicate 8 15 ++ replicate 120 0)) .told .bytes) (replicate 5 0 ++ (4 ∷ replicate 10 0))

@@ -9,8 +9,8 @@ use Rattle.blocks.specs.declared.Store.the-variants.{Priority, Ordinary}
 use Rattle.tables.specs.Tables.{three}
 use Rattle.rules.specs.State.{withRing, withPipe, withTables}
 use Rattle.rules.specs.Refusals.{Giving}
-use Rattle.rules.specs.Families.{command, status, byte}
-use Rattle.rules.specs.World.{World, withPod, Call, power, packet, deadline, put, word, pipe, samples, step}
+use Rattle.rules.specs.Families.{command, status, byte, deadline, pipe}
+use Rattle.rules.specs.World.{World, withPod, Call, power, packet, put, word, lone, samples, step}
 use Rattle.rules.specs.Demands.{justPowered}
 use Rattle.examples.specs.Shown.{justInitialised, ComputedLine, line, AsExpected}
 
@@ -44,7 +44,7 @@ edges =
     ∷ line (refusalIn broken (put Priority [])) (3 ∷ [])
     ∷ line (refusalIn justPowered (put Priority [])) (4 ∷ [])
     ∷ line (refusalIn justPowered (samples 32 (replicate 128 0))) (5 ∷ [])
-    ∷ line (refusalIn justPowered (pipe (byte 0))) (6 ∷ [])
+    ∷ line (refusalIn justPowered (lone (pipe (byte 0)))) (6 ∷ [])
     ∷ line (refusalIn (holding Priority 16 justPowered) (put Priority (replicate 256 0))) (6 ∷ [])
     ∷ line (refusalIn (holding Priority 16 justInitialised) (put Priority (replicate 256 0))) (7 ∷ [])
     -- 1: "answer room under 260 bytes"
@@ -54,15 +54,15 @@ edges =
     ∷ line (refusalIn (bare justPowered) power) (2 ∷ [])
     ∷ line (refusalIn (bare justPowered) (word (command 0))) (2 ∷ [])
     ∷ line (refusalIn (bare justPowered) (word status)) []
-    ∷ line (refusalIn (bare justPowered) deadline) []
+    ∷ line (refusalIn (bare justPowered) (lone deadline)) []
     -- 3: every call but power on judges the state
     ∷ line (refusalIn broken (packet [] (replicate 260 0))) (3 ∷ [])
-    ∷ line (refusalIn broken deadline) (3 ∷ [])
+    ∷ line (refusalIn broken (lone deadline)) (3 ∷ [])
     ∷ line (refusalIn broken (word status)) (3 ∷ [])
-    ∷ line (refusalIn broken (pipe (byte 0))) (3 ∷ [])
+    ∷ line (refusalIn broken (lone (pipe (byte 0)))) (3 ∷ [])
     ∷ line (refusalIn broken (samples 0 [])) (3 ∷ [])
     ∷ line (refusalIn broken power) []
-    ∷ line (refusalIn (counting 15 justPowered) deadline) []
+    ∷ line (refusalIn (counting 15 justPowered) (lone deadline)) []
     -- 4: "a block is not 256 bytes, or a sample set not 128 numbers"
     ∷ line (refusalIn justInitialised (put Priority (replicate 255 0))) (4 ∷ [])
     ∷ line (refusalIn justInitialised (put Priority (replicate 257 0))) (4 ∷ [])
@@ -72,7 +72,7 @@ edges =
     ∷ line (refusalIn justPowered (samples 31 (replicate 128 1024))) (5 ∷ [])
     ∷ line (refusalIn justPowered (samples 31 (replicate 128 1023))) []
     -- 6: "block or pipe call while the pod is not initialised"
-    ∷ line (refusalIn justInitialised (pipe (byte 0))) []
+    ∷ line (refusalIn justInitialised (lone (pipe (byte 0)))) []
     -- 7: "that store is full", of 16 or of 128 blocks
     ∷ line (refusalIn (holding Priority 15 justInitialised) (put Priority (replicate 256 0))) []
     ∷ line (refusalIn (holding Ordinary 128 justInitialised) (put Ordinary (replicate 256 0))) (7 ∷ [])

@@ -15,8 +15,8 @@ use Rattle.tables.specs.Port.{dataCount}
 use Rattle.rules.specs.State.{freshFields}
 use Rattle.rules.specs.Obey.{exchangeCode}
 use Rattle.rules.specs.Refusals.{Giving, done, bytes, reads}
-use Rattle.rules.specs.Families.{command, dataIn, dataOut, status, byte, timeout}
-use Rattle.rules.specs.World.{World, Call, packet, word, pipe, samples, Told, step, next, final, tells}
+use Rattle.rules.specs.Families.{command, dataIn, dataOut, status, byte, timeout, pipe}
+use Rattle.rules.specs.World.{World, Call, packet, word, lone, samples, Told, step, next, final, tells}
 use Rattle.rules.specs.Demands.{justPowered}
 
 -- "a pod just initialised with flags 0", from power on
@@ -92,7 +92,7 @@ framesAfter cs = step (final justInitialised cs) (samples 31 (replicate 128 1023
 -- a byte and a timeout, n times
 abbrev pub timeouts : ℕ → List Call
 timeouts zero = []
-timeouts (suc n) = pipe (byte 0) ∷ pipe timeout ∷ timeouts n
+timeouts (suc n) = lone (pipe (byte 0)) ∷ lone (pipe timeout) ∷ timeouts n
 
 -- input timeouts in 0.7-4
 abbrev pub countAfter : ℕ → ℕ

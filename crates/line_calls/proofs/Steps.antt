@@ -10,7 +10,7 @@ use Rattle.blocks.specs.declared.Store.the-variants.{Priority, Ordinary}
 use Rattle.tables.specs.Tables.{Three, three}
 use Rattle.tables.specs.Port.{Desk, desk}
 use Rattle.pipe.specs.declared.Sent.{Sent}
-use Rattle.pipe.specs.Input.{sentBytes}
+use Rattle.pipe.specs.Input.{sentPacket, sentBytes}
 use Rattle.frames.specs.declared.Frames.{Frames}
 use Rattle.rules.specs.declared.Pod.{Pod}
 use Rattle.rules.specs.declared.Called.{Called}
@@ -21,8 +21,8 @@ use Rattle.rules.specs.State.{withWords, withStores, withTables, storeIn}
 use Rattle.rules.specs.Refusals.{Giving, done, answerSaid}
 use Rattle.rules.specs.Families.{WordCall, PipeCall}
 use Rattle.rules.specs.Families as family
-use Rattle.rules.specs.Calls.{Roomed, roomed, powerCall, packetCall, deadlineCall, putCall, wordCall, pipeCall, samplesCall}
-use Rattle.rules.specs.World.{World, world, told, Stepped, stepped, overTables, overRoom, overNothing, overStore, overDesk, overSent, overFrames, framesIn, step}
+use Rattle.rules.specs.Calls.{Roomed, roomed, powerCall, packetCall, putCall, wordCall, loneCall, samplesCall}
+use Rattle.rules.specs.World.{World, world, told, Stepped, stepped, overTables, overRoom, overStore, overDesk, overSent, overFrames, framesIn, step}
 use Rattle.lines.specs.Letters.{letterP, letterD, letterB, letterC, letterW, letterR, letterS, letterA, letterI, letterT, letterZ}
 use Rattle.lines.specs.Asked.{Asked, packet, deadline, put, command, dataIn, dataOut, status, samples, askByte, askTimeout, power, other}
 use Rattle.items.specs.Characters.{question}
@@ -66,11 +66,11 @@ module _ (p : Pod) (m : Memory) (r : LineSaid) (o o′ : List ℕ) (at : ℕ) wh
   unfolding lineStep callOf lineText formOf roomAfter
   by-other q t = answered-by other p m m r o o′ at (gave done) [] _ p refl refl refl q t
 
-  pub by-deadline : (c : Called) → out (answerSaid (c .answer)) (c .pod) tt ≡ deadlineCall p → r .pod ≡ c .pod
+  pub by-deadline : (c : Called) → out (answerSaid (c .answer)) (c .pod) (sentPacket []) ≡ loneCall family.deadline p → r .pod ≡ c .pod
       → Printed (saidLine (plain letterD) (answerSaid (c .answer)) []) at (r .at) o o′ → LineAnswered deadline p m m r o o′ at
-  unfolding lineStep callOf step lineText formOf roomAfter
+  unfolding lineStep callOf step lineText formOf roomAfter sentPacket sentBytes
   by-deadline c e q t =
-      answered-by deadline p m m r o o′ at (answerSaid (c .answer)) [] _ (c .pod) (ap (λ x. overNothing x w) (sym e)) refl refl q t
+      answered-by deadline p m m r o o′ at (answerSaid (c .answer)) [] _ (c .pod) (ap (λ x. overSent x w) (sym e)) refl refl q t
 
   pub by-power : (c : Called) (five six seven : List ℕ)
       → out (answerSaid (c .answer)) (c .pod) (three five six seven) ≡ powerCall (three (m .five) (m .six) (m .seven)) p → r .pod ≡ c .pod
@@ -109,14 +109,14 @@ module _ (p : Pod) (m : Memory) (r : LineSaid) (o o′ : List ℕ) (at : ℕ) wh
 
   -- the pipe's two calls
   module _ (c : Passed) (q : r .pod ≡ c .pod) where
-    pub by-byte : (b : ℕ) → out (answerSaid (c .answer)) (c .pod) (c .sent) ≡ pipeCall (family.byte b) p
+    pub by-byte : (b : ℕ) → out (answerSaid (c .answer)) (c .pod) (c .sent) ≡ loneCall (family.pipe (family.byte b)) p
         → Printed (saidLine (listing letterI) (answerSaid (c .answer)) (sentBytes (c .sent))) at (r .at) o o′
         → LineAnswered (askByte b) p m m r o o′ at
     unfolding lineStep callOf step lineText formOf roomAfter
     by-byte b e t =
         answered-by (askByte b) p m m r o o′ at (answerSaid (c .answer)) (sentBytes (c .sent)) _ (c .pod) (ap (λ x. overSent x w) (sym e)) refl refl q t
 
-    pub by-timeout : out (answerSaid (c .answer)) (c .pod) (c .sent) ≡ pipeCall family.timeout p
+    pub by-timeout : out (answerSaid (c .answer)) (c .pod) (c .sent) ≡ loneCall (family.pipe family.timeout) p
         → Printed (saidLine (listing letterT) (answerSaid (c .answer)) (sentBytes (c .sent))) at (r .at) o o′
         → LineAnswered askTimeout p m m r o o′ at
     unfolding lineStep callOf step lineText formOf roomAfter

@@ -31,15 +31,15 @@ heardLine line.Other bs ws = other
 -- the call, with the answer room that it is lent; any other line calls nothing
 unfoldable pub callOf : Asked → List ℕ → Option Call
 callOf (packet bs) room = some (rules.packet bs room)
-callOf deadline room = some rules.deadline
+callOf deadline room = some (rules.lone family.deadline)
 callOf (put s bs) room = some (rules.put s bs)
 callOf (command w) room = some (rules.word (family.command w))
 callOf (dataIn w) room = some (rules.word (family.dataIn w))
 callOf dataOut room = some (rules.word family.dataOut)
 callOf status room = some (rules.word family.status)
 callOf (samples k ws) room = some (rules.samples k ws)
-callOf (askByte b) room = some (rules.pipe (family.byte b))
-callOf askTimeout room = some (rules.pipe family.timeout)
+callOf (askByte b) room = some (rules.lone (family.pipe (family.byte b)))
+callOf askTimeout room = some (rules.lone (family.pipe family.timeout))
 callOf power room = some rules.power
 callOf other room = none
 

@@ -7,10 +7,13 @@ use rules::Called;
 use rules::Pod;
 use rules::Refusal;
 ghost use mathlib.Core.Path.{_≡_};
+ghost use mathlib.Core.List.{[]};
 ghost use Rattle.rows.specs.Rows.{out};
 ghost use Rattle.tables.specs.Tables.{three};
+ghost use Rattle.pipe.specs.Input.{sentPacket};
 ghost use Rattle.rules.specs.Refusals.{answerSaid};
-ghost use Rattle.rules.specs.Calls.{powerCall, deadlineCall};
+ghost use Rattle.rules.specs.Families.{deadline};
+ghost use Rattle.rules.specs.Calls.{powerCall, loneCall};
 
 // The state fresh from power, with the tables at their starts.
 pub fn power_on(pod: Pod, five: &mut [u16], six: &mut [u16], seven: &mut [u16]) -> Called
@@ -29,9 +32,9 @@ pub fn power_on(pod: Pod, five: &mut [u16], six: &mut [u16], seven: &mut [u16]) 
     }
 }
 
-// 2 ms passed: an open exchange is closed.
+// 2 ms passed: an open exchange is closed, and nothing is sent.
 pub fn deadline(pod: Pod) -> Called
-    ensures { λ r. ⌜ out (answerSaid (r .answer)) (r .pod) tt ≡ deadlineCall pod ⌝ }
+    ensures { λ r. ⌜ out (answerSaid (r .answer)) (r .pod) (sentPacket []) ≡ loneCall deadline pod ⌝ }
 {
     if !sound(pod) {
         return Called {

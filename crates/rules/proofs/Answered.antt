@@ -10,11 +10,15 @@ use Rattle.rows.proofs.Bool.{never, not-true}
 use Rattle.rows.proofs.Laws.{never-both, first-one, refused-same, gave-not}
 use Rattle.rows.proofs.Lowest.{lowest}
 use Rattle.rules.specs.Refusals.{Giving, done}
-use Rattle.rules.specs.Families.{command, dataIn, dataOut, status, wordLent, byte, timeout, wordOf, pipeOf}
-use Rattle.rules.specs.World.{World, Call, power, packet, deadline, put, word, pipe, samples, roomOf, Told, Stepped, stepped, isAnswered, isRefused, step, rowsOf}
+use Rattle.rules.specs.Families.{command, dataIn, dataOut, status, wordLent, wordOf}
+use Rattle.rules.specs.Calls.{reachOf}
+use Rattle.rules.specs.World.{World, Call, power, packet, put, word, lone, samples, roomOf, Told, Stepped, stepped, isAnswered, isRefused, step, rowsOf}
 use Rattle.rules.specs.Demands.{AlwaysAnswered, LowestFirst, RefusedUnchanged}
+use Rattle.rules.specs.History.{loneAs}
+use Rattle.rules.specs.Numbered.{isPipe}
 use Rattle.rules.specs.Said.{givesNumber, givesBytes, SaysDone}
-use Rattle.rules.proofs.Happens.{Happens, by-rows, by-power, by-empty, by-damage, by-acknowledgement, by-check, by-command, by-deadline, by-put, by-word, by-pipe, by-samples, happens}
+use Rattle.rules.proofs.Lone.{lone-rows, rise-if, lone-is, unsent}
+use Rattle.rules.proofs.Happens.{Happens, by-rows, by-power, by-empty, by-damage, by-acknowledgement, by-check, by-command, by-put, by-word, by-lone, by-samples, happens}
 
 -- how a call ends: refused by its first row that holds, or answered
 pub data Ends (w : World) (c : Call) (s : Stepped) : Type 0 where
@@ -29,10 +33,9 @@ ends (by-damage b room first n k e) = answered _ k refl
 ends (by-acknowledgement b room first one k e) = answered _ k refl
 ends (by-check b room c n k e f) = answered _ k refl
 ends (by-command b room c k e q) = answered _ k refl
-ends (by-deadline k) = answered _ k refl
 ends (by-put s b k) = answered _ k refl
 ends (by-word c k) = answered _ k refl
-ends (by-pipe c k) = answered _ k refl
+ends (by-lone c k) = answered _ k refl
 ends (by-samples n xs k) = answered _ k refl
 
 says : {s r : Stepped} → s ≡ r → s .told .said ≡ r .told .said
@@ -70,13 +73,12 @@ rows-rise : (w : World) (c : Call) → rising 0 (rowsOf w c) ≡ true
 unfolding rising rowsOf wordLent
 rows-rise w power = refl
 rows-rise w (packet b room) = refl
-rows-rise w deadline = refl
 rows-rise w (put s b) = refl
 rows-rise w (word (command x)) = refl
 rows-rise w (word (dataIn x)) = refl
 rows-rise w (word dataOut) = refl
 rows-rise w (word status) = refl
-rows-rise w (pipe c) = refl
+rows-rise w (lone c) = rw (lone-rows c (w .pod)) (rise-if (isPipe c) (w .pod))
 rows-rise w (samples k xs) = refl
 
 -- "Lowest number first"
@@ -92,7 +94,7 @@ Gives : Call → Told → Type 0
 Gives c t = (givesNumber c ≡ false → t .said ≡ gave done) × (givesBytes c ≡ false → t .bytes ≡ [])
 
 gives : {w : World} {c : Call} {s : Stepped} → Happens w c s → isRefused (s .told .said) ≡ false → Gives c (s .told)
-unfolding Gives wordOf pipeOf
+unfolding Gives wordOf
 gives (by-rows c n f) a = never refl a
 gives (by-power k) a = (λ e. refl, λ e. refl)
 gives (by-empty b room k e) a = (λ z. never refl z, λ z. never refl z)
@@ -100,14 +102,12 @@ gives (by-damage b room first n k e) a = (λ z. never refl z, λ z. never refl z
 gives (by-acknowledgement b room first one k e) a = (λ z. never refl z, λ z. never refl z)
 gives (by-check b room c n k e f) a = (λ z. never refl z, λ z. never refl z)
 gives (by-command b room c k e q) a = (λ z. never refl z, λ z. never refl z)
-gives (by-deadline k) a = (λ e. refl, λ e. refl)
 gives (by-put s b k) a = (λ e. refl, λ e. refl)
 gives (by-word (command x) k) a = (λ e. refl, λ e. refl)
 gives (by-word (dataIn x) k) a = (λ e. refl, λ e. refl)
 gives (by-word dataOut k) a = (λ z. never refl z, λ e. refl)
 gives (by-word status k) a = (λ z. never refl z, λ e. refl)
-gives (by-pipe (byte b) k) a = (λ e. refl, λ z. never refl z)
-gives (by-pipe timeout k) a = (λ e. refl, λ z. never refl z)
+gives {w} (by-lone c k) a = (λ e. refl, λ e. rw (lone-is c (reachOf (w .pod))) (unsent (loneAs c .moves) (w .pod .pipe) e))
 gives (by-samples n xs k) a = (λ e. refl, λ z. never refl z)
 
 pub says-done : SaysDone

@@ -15,12 +15,12 @@ use Rattle.tables.specs.declared.Transfer.the-variants.{Idle}
 use Rattle.tables.specs.Port.{startWords, closeOf}
 use Rattle.rules.specs.State.{deskIn, freshPod}
 use Rattle.rules.specs.Obey.{initialisedPod, doneBy}
-use Rattle.rules.specs.Families.{WordCall, command, dataIn, dataOut, status, wordLent, PipeCall}
+use Rattle.rules.specs.Families.{WordCall, command, dataIn, dataOut, status, wordLent, LoneCall}
 use Rattle.rules.specs.Calls.{answered, wordCall}
-use Rattle.rules.specs.World.{World, Call, power, packet, deadline, put, word, pipe, samples, Stepped, step, rowsOf, next, final}
+use Rattle.rules.specs.World.{World, Call, power, packet, put, word, lone, samples, Stepped, step, rowsOf, next, final}
 use Rattle.rules.specs.History.{Event, words, obeyedAs, eventOf}
 use Rattle.rules.specs.Transfers.{Fit, cuts}
-use Rattle.rules.proofs.Happens.{Happens, by-rows, by-power, by-empty, by-damage, by-acknowledgement, by-check, by-command, by-deadline, by-put, by-pipe, by-samples, obeying, wording}
+use Rattle.rules.proofs.Happens.{Happens, by-rows, by-power, by-empty, by-damage, by-acknowledgement, by-check, by-command, by-put, by-lone, by-samples, obeying, wording}
 use Rattle.rules.proofs.Succeeded.{error-fails, room-at}
 use Rattle.rules.proofs.Eventful.{command-succeeds}
 use Rattle.rules.proofs.Untouched.{acknowledged-untouched}
@@ -54,9 +54,8 @@ word-event w h x = ap (λ (s : Stepped). eventOf (word x) (s .told)) (word-fit w
 pub data Other : Call → Type 0 where
   powers : Other power
   sends : (b room : List ℕ) → Other (packet b room)
-  waits : Other deadline
   puts : (s : Store) (b : List ℕ) → Other (put s b)
-  pipes : (c : PipeCall) → Other (pipe c)
+  touches : (c : LoneCall) → Other (lone c)
   shows : (k : ℕ) (xs : List ℕ) → Other (samples k xs)
 
 pub data Which : Call → Type 0 where
@@ -66,10 +65,9 @@ pub data Which : Call → Type 0 where
 pub which : (c : Call) → Which c
 which power = other powers
 which (packet b room) = other (sends b room)
-which deadline = other waits
 which (put s b) = other (puts s b)
 which (word x) = says x
-which (pipe c) = other (pipes c)
+which (lone c) = other (touches c)
 which (samples k xs) = other (shows k xs)
 
 -- the port and what is lent to it are as they were
@@ -109,7 +107,6 @@ ported {w} o (by-acknowledgement b room first one k e) =
 ported {w} o (by-check b room c n k e f) =
     rw (e, error-fails room (commandRow c .code) n (room-at w b room k)) (apart _ _ (λ g. refl) (record { words = refl; desk = refl }))
 ported {w} o (by-command b room c k e q) = rw (e, command-succeeds w room (room-at w b room k) c) (command-ported w room c)
-ported o (by-deadline k) = apart _ _ (λ g. refl) (record { words = refl; desk = refl })
 ported o (by-put s b k) = apart _ _ (λ g. refl) (record { words = refl; desk = refl })
-ported o (by-pipe c k) = apart _ _ (λ g. refl) (record { words = refl; desk = refl })
+ported o (by-lone c k) = apart _ _ (λ g. refl) (record { words = refl; desk = refl })
 ported {w} o (by-samples k xs q) = apart _ _ (λ g. refl) (still w)

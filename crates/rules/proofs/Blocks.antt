@@ -17,7 +17,7 @@ use Rattle.rules.specs.World.{World, put, rowsOf, powered}
 use Rattle.rules.specs.History.{Event, hearsAcknowledgement, sameStore, Waiting, nothingWaits, blocksBy, waitingBy}
 use Rattle.rules.specs.Demands.{BlocksAreHistory}
 use Rattle.rules.proofs.Happens.{putting}
-use Rattle.rules.proofs.Eventful.{Eventful, quiet, anew, initialised, slept, updated, wrote, began, closed, acknowledged, shelved, spoken, moved}
+use Rattle.rules.proofs.Eventful.{Eventful, quiet, anew, initialised, slept, updated, wrote, began, closed, acknowledged, shelved, spoken, touched}
 use Rattle.rules.proofs.Histories.{Keeps, history, powered-fresh}
 use Rattle.rules.proofs.Stores.{of-both, of-changed, of-changed-two, same-is}
 use Rattle.rules.proofs.Inside.{pod-in, ring-in}
@@ -70,7 +70,7 @@ module _ (s : Store) where
       rw (← o .exchange, ← h) (blocks-settled s (settles first one (w .pod) (o .waits)) (storeIn s (w .lent)))
   blocks-kept w _ _ (shelved r b k) x q o h = rw (← h) (blocks-put s r b w k)
   blocks-kept w _ _ (spoken c k) x q o h = h
-  blocks-kept w _ _ (moved c k) x q o h = h
+  blocks-kept w _ _ (touched t) x q o h = h
 
   abbrev WaitingAs : World → Waiting → Type 0
   WaitingAs w a = Opened w (a .exchange) × (waitingIn s w ≡ a .blocks)

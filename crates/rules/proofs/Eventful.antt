@@ -7,7 +7,7 @@ use mathlib.Core.List.{List}
 use lib.Dec.{eqb}
 use lib.ListN.{length}
 use lib.IntN.{ℤ}
-use Rattle.rows.specs.Rows.{Clear, none, past}
+use Rattle.rows.specs.Rows.{Clear, none, past, given}
 use Rattle.rows.proofs.Bool.{not-false}
 use Rattle.rows.proofs.Laws.{clear-head, clear-rest}
 use Rattle.blocks.specs.declared.Store.{Store}
@@ -18,17 +18,17 @@ use Rattle.packets.specs.declared.Command.the-variants.{Initialise, Status, Upd
 use Rattle.packets.specs.declared.Fields.{Fields}
 use Rattle.packets.specs.Commands.{commandRow}
 use Rattle.params.specs.Rules.{writeAllowed}
-use Rattle.pipe.specs.Input.{sentBytes}
 use Rattle.rules.specs.declared.Pod.{Pod}
 use Rattle.rules.specs.declared.Exchange.{Exchange}
 use Rattle.rules.specs.declared.Exchange.the-variants as exchange
 use Rattle.rules.specs.State.{ofStore, remainingOf, freshFields, soundPod, withExchange}
 use Rattle.rules.specs.Obey.{shut, checksOf, doneBy, acknowledgedOf}
-use Rattle.rules.specs.Families.{WordCall, PipeCall, pipeOf}
-use Rattle.rules.specs.Calls.{replyBytes, spokenBytes, answered}
-use Rattle.rules.specs.World.{World, world, Call, packet, put, word, pipe, Stepped, rowsOf}
-use Rattle.rules.specs.History.{Event, nothing, begins, sleeps, updates, writesParameter, opensExchange, closesExchange, hearsAcknowledgement, puts, words, pipes, obeyedAs, succeeded, eventOf}
-use Rattle.rules.proofs.Happens.{Happens, by-rows, by-power, by-empty, by-damage, by-acknowledgement, by-check, by-command, by-deadline, by-put, by-word, by-pipe, by-samples, powering, obeying, putting, wording, piping}
+use Rattle.rules.specs.Families.{WordCall}
+use Rattle.rules.specs.Calls.{replyBytes, spokenBytes, answered, reachOf, reached}
+use Rattle.rules.specs.World.{World, world, Call, packet, put, word, Stepped, overSent, rowsOf}
+use Rattle.rules.specs.History.{Event, nothing, begins, sleeps, updates, writesParameter, opensExchange, closesExchange, hearsAcknowledgement, puts, words, Touch, loneAs, touches, obeyedAs, succeeded, eventOf}
+use Rattle.rules.proofs.Happens.{Happens, by-rows, by-power, by-empty, by-damage, by-acknowledgement, by-check, by-command, by-put, by-word, by-lone, by-samples, powering, obeying, putting, wording}
+use Rattle.rules.proofs.Lone.{touchOf, lone-is}
 use Rattle.rules.proofs.Succeeded.{one-succeeds, error-fails, room-at}
 
 -- the block of an open receive waits, and remaining is above 0
@@ -45,6 +45,10 @@ Waits x p = WaitsIn x (p .priority) (p .ordinary) (p .fields)
 abbrev pub obeyedIn : Command → World → World
 obeyedIn c w = let o = doneBy c (w .lent) (shut (w .pod)) in world (o .pod) (o .lent)
 
+-- a call that is lent nothing, by what the history takes it for
+abbrev touching : Touch → World → Stepped
+touching t w = overSent (given (reached (touchOf t (reachOf (w .pod))) (w .pod))) w
+
 pub data Eventful (w : World) : Event → World → Type 0 where
   quiet : Eventful w nothing w
   anew : Eventful w (begins false freshFields) (powering w .world)
@@ -59,7 +63,7 @@ pub data Eventful (w : World) : Event → World → Type 0 where
       → Eventful w (hearsAcknowledgement first one) (world (acknowledgedOf first one (w .pod)) (w .lent))
   shelved : (s : Store) (b : List ℕ) → Clear (rowsOf w (put s b)) → Eventful w (puts s b) (putting s b w .world)
   spoken : (c : WordCall) → Clear (rowsOf w (word c)) → Eventful w (words c) (wording c w .world)
-  moved : (c : PipeCall) → Clear (rowsOf w (pipe c)) → Eventful w (pipes c (sentBytes (pipeOf c (w .pod .pipe) .lent))) (piping c w .world)
+  touched : (t : Touch) → Eventful w (touches t (touching t w .told .bytes)) (touching t w .world)
 
 -- where no row of a packet holds, the pod is sound
 pub sound-at : (w : World) (b room : List ℕ) → Clear (rowsOf w (packet b room)) → soundPod (w .pod) ≡ true
@@ -93,8 +97,7 @@ eventful {w} (by-damage b room first n k e) = rw e closed
 eventful {w} (by-acknowledgement b room first one k e) = rw e (acknowledged first one (sound-at w b room k))
 eventful {w} (by-check b room c n k e f) = rw (e, error-fails room (commandRow c .code) n (room-at w b room k)) closed
 eventful {w} (by-command b room c k e q) = rw (e, command-succeeds w room (room-at w b room k) c) (obeyed w room (room-at w b room k) c q)
-eventful (by-deadline k) = closed
 eventful (by-put s b k) = shelved s b k
 eventful (by-word c k) = spoken c k
-eventful (by-pipe c k) = moved c k
+eventful {w} (by-lone c k) = rw (lone-is c (reachOf (w .pod))) (touched (loneAs c))
 eventful (by-samples k xs c) = quiet

@@ -4,11 +4,12 @@ use Prim.Native.Nat.{ℕ}
 use native.Mathlib.Omega.{arith}
 use mathlib.Core.Path.{_≡_, refl, sym, ap, _∙_}
 use mathlib.Core.List.{List, [], _∷_, _++_, append-nil, append-assoc}
+use mathlib.Core.Option.{Option, none, some}
 use lib.ListN.{length, take}
 use borrow.Author.Tests.{lt-ltb, le-ltb, eq-eqb, ne-eqb}
 use Rattle.pipe.specs.declared.Input.{Input}
 use Rattle.pipe.specs.declared.Pipe.{Pipe}
-use Rattle.pipe.specs.Input.{heldIn, sentBytes, emptyInput, freshInput, gathers, pipeByte, countUp, pipeTimeout}
+use Rattle.pipe.specs.Input.{heldIn, sentBytes, emptyInput, freshInput, sentPacket, gathers, pipeByte, countUp, pipeTimeout}
 use Rattle.pipe.specs.Pipe.{freshPipe}
 use Rattle.pipe.proofs.Cases.{byte-cases, timeout-cases}
 use Rattle.pipe.proofs.Held.{Whole, length-held, held-gathers, held-empty, listed, whole-empty, whole-gathers}
@@ -16,9 +17,10 @@ use Rattle.rules.specs.State.{Lent, freshPod}
 use Rattle.rules.specs.Obey.{initialisedPod, doneBy}
 use Rattle.rules.specs.Families.{PipeCall, byte, timeout, pipeOf}
 use Rattle.rules.specs.World.{Call, final, powered}
-use Rattle.rules.specs.History.{Flow, noFlow, flowAfter, flowBy, sentBy, events, fold}
+use Rattle.rules.specs.History.{Flow, noFlow, flowAfter, flowMoved, flowBy, sentBy, events, fold}
 use Rattle.rules.specs.Demands.{Flows, PipeIsHistory}
-use Rattle.rules.proofs.Eventful.{quiet, anew, initialised, slept, updated, wrote, began, closed, acknowledged, shelved, spoken, moved}
+use Rattle.rules.proofs.Lone.{movedBy}
+use Rattle.rules.proofs.Eventful.{quiet, anew, initialised, slept, updated, wrote, began, closed, acknowledged, shelved, spoken, touched}
 use Rattle.rules.proofs.Histories.{Keeps, history, both, fold-both, powered-fresh}
 use Rattle.rules.proofs.Untouched.{acknowledged-untouched}
 
@@ -91,6 +93,13 @@ unfolding pipeOf
 pipe-flows (byte b) p s f x = byte-flows (p .input) s f x b
 pipe-flows timeout p s f x = timeout-flows (p .input) s f x
 
+-- or none
+moved-flows : (m : Option PipeCall) (p : Pipe) (s : List ℕ) (f : Flow) → Flowing (p .input) s f
+    → Flowing (movedBy m p .pod .input) (s ++ sentBytes (movedBy m p .lent)) (flowMoved m f)
+unfolding sentBytes sentPacket
+moved-flows none p s f x = rw (append-nil s) x
+moved-flows (some c) p s f x = pipe-flows c p s f x
+
 -- ---- over every run of calls
 
 flow-kept : Keeps (both sentBy flowBy) (λ w a. Flowing (w .pod .pipe .input) (a .0) (a .1))
@@ -106,7 +115,7 @@ flow-kept w _ _ closed a x = x
 flow-kept w _ _ (acknowledged first one e) a x = rw (acknowledged-untouched first one (w .pod) .pipe) x
 flow-kept w _ _ (shelved s b k) a x = x
 flow-kept w _ _ (spoken c k) a x = x
-flow-kept w _ _ (moved c k) a x = pipe-flows c (w .pod .pipe) (a .0) (a .1) x
+flow-kept w _ _ (touched t) a x = moved-flows (t .moves) (w .pod .pipe) (a .0) (a .1) x
 
 pub flowing-is : (l : Lent) (cs : List Call)
     → Flowing (final (powered l) cs .pod .pipe .input) (fold sentBy [] (events (powered l) cs)) (fold flowBy noFlow (events (powered l) cs))

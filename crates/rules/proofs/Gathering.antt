@@ -24,16 +24,15 @@ use Rattle.rules.specs.History.{Event, eventOf, events}
 use Rattle.rules.specs.Transfers.{Fit, cuts, cutsLoad, leftOpen, callWritten, writtenIn, othersIn}
 use Rattle.rules.proofs.Happens.{happens}
 use Rattle.rules.proofs.Sound.{sound-next}
-use Rattle.rules.proofs.Between.{word-fit, word-event, Other, powers, sends, waits, puts, pipes, shows, Which, says, other, which, Ported, apart, ends, ported}
+use Rattle.rules.proofs.Between.{word-fit, word-event, Other, powers, sends, puts, touches, shows, Which, says, other, which, Ported, apart, ends, ported}
 use Rattle.rules.proofs.Holding.{hold, beside, sound-held, other-held}
 
 -- no other call than a table word writes one
 written-none : {c : Call} → Other c → callWritten c ≡ []
 written-none powers = refl
 written-none (sends b room) = refl
-written-none waits = refl
 written-none (puts s b) = refl
-written-none (pipes c) = refl
+written-none (touches c) = refl
 written-none (shows k xs) = refl
 
 -- a world with the port so

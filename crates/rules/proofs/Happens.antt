@@ -21,9 +21,9 @@ use Rattle.rules.specs.declared.Pod.{Pod}
 use Rattle.rules.specs.State.{freshPod, storeIn, withTables, deskIn}
 use Rattle.rules.specs.Obey.{shut, checksOf, doneBy, obeyOf, acknowledgedOf}
 use Rattle.rules.specs.Refusals.{done}
-use Rattle.rules.specs.Families.{WordCall, wordOf, PipeCall, pipeOf}
-use Rattle.rules.specs.Calls.{powerRows, powerCall, roomed, replied, packetHeard, replyBytes, spokenBytes, written, answered, packetRows, packetCall, deadlineRows, deadlineCall, putRows, shelved, putCall, wordRows, worded, wordCall, pipeRows, passed, pipeCall, samplesRows, framed, samplesCall}
-use Rattle.rules.specs.World.{World, Call, power, packet, deadline, put, word, pipe, samples, roomOf, Stepped, stepped, overTables, overRoom, overNothing, overStore, overDesk, overSent, overFrames, step, rowsOf}
+use Rattle.rules.specs.Families.{WordCall, wordOf, LoneCall, loneOf}
+use Rattle.rules.specs.Calls.{powerRows, powerCall, roomed, replied, packetHeard, replyBytes, spokenBytes, written, answered, packetRows, packetCall, putRows, shelved, putCall, wordRows, worded, wordCall, loneRows, reachOf, reached, loneCall, samplesRows, framed, samplesCall}
+use Rattle.rules.specs.World.{World, Call, power, packet, put, word, lone, samples, roomOf, Stepped, stepped, overTables, overRoom, overStore, overDesk, overSent, overFrames, step, rowsOf}
 use Rattle.rules.proofs.Stores.{store-same}
 
 -- ---- the effects, by their definitions
@@ -42,17 +42,14 @@ erring first n room w = telling (errorAnswer first n) room (shut (w .pod)) w
 abbrev pub obeying : Command → List ℕ → World → Stepped
 obeying c room w = overRoom (given (answered (replied (commandRow c .code) (given (doneBy c (w .lent) (shut (w .pod))))) room)) w
 
-abbrev pub ending : World → Stepped
-ending w = stepped (gave done) [] (shut (w .pod)) (w .lent)
-
 abbrev pub putting : Store → List ℕ → World → Stepped
 putting s b w = overStore s (given (shelved s b (storeIn s (w .lent)) (w .pod))) w
 
 abbrev pub wording : WordCall → World → Stepped
 wording c w = overDesk (given (worded (wordOf c (w .pod .initialised) (w .pod .words) (deskIn (w .lent))) (w .pod))) w
 
-abbrev pub piping : PipeCall → World → Stepped
-piping c w = overSent (given (passed (pipeOf c (w .pod .pipe)) (w .pod))) w
+abbrev pub reaching : LoneCall → World → Stepped
+reaching c w = overSent (given (reached (loneOf c (reachOf (w .pod))) (w .pod))) w
 
 abbrev pub showing : ℕ → List ℕ → World → Stepped
 showing k xs w = overFrames (given (framed k xs (w .pod))) w
@@ -72,10 +69,9 @@ pub data Happens (w : World) : Call → Stepped → Type 0 where
       → First n (checksOf c (w .pod)) → Happens w (packet b room) (erring (commandRow c .code) n room w)
   by-command : (b room : List ℕ) (c : Command) → Clear (rowsOf w (packet b room)) → packetRead b ≡ Asked c
       → Clear (checksOf c (w .pod)) → Happens w (packet b room) (obeying c room w)
-  by-deadline : Clear (rowsOf w deadline) → Happens w deadline (ending w)
   by-put : (s : Store) (b : List ℕ) → Clear (rowsOf w (put s b)) → Happens w (put s b) (putting s b w)
   by-word : (c : WordCall) → Clear (rowsOf w (word c)) → Happens w (word c) (wording c w)
-  by-pipe : (c : PipeCall) → Clear (rowsOf w (pipe c)) → Happens w (pipe c) (piping c w)
+  by-lone : (c : LoneCall) → Clear (rowsOf w (lone c)) → Happens w (lone c) (reaching c w)
   by-samples : (k : ℕ) (xs : List ℕ) → Clear (rowsOf w (samples k xs)) → Happens w (samples k xs) (showing k xs w)
 
 -- no check looks at the exchange
@@ -109,16 +105,15 @@ module _ (w : World) (b room : List ℕ) (k : Clear (rowsOf w (packet b room))) 
   heard (Asked c) e = obeyed c e
 
 pub happens : (w : World) (c : Call) → Happens w c (step w c)
-unfolding step rowsOf powerCall packetCall deadlineCall putCall wordCall pipeCall samplesCall sentBytes sentPacket
+unfolding step rowsOf powerCall packetCall putCall wordCall loneCall samplesCall sentBytes sentPacket
 happens w power = ran-case (λ o. Happens w power (overTables o w)) (powerRows (w .lent .tables)) (by-rows power) by-power
 happens w (packet b room) =
     ran-case (λ o. Happens w (packet b room) (overRoom o w)) (packetRows (roomed room (w .lent)) (w .pod)) (by-rows (packet b room))
     (λ k. heard w b room k (packetRead b) refl)
-happens w deadline = ran-case (λ o. Happens w deadline (overNothing o w)) (deadlineRows (w .pod)) (by-rows deadline) by-deadline
 happens w (put s b) =
     ran-case (λ o. Happens w (put s b) (overStore s o w)) (putRows s b (storeIn s (w .lent)) (w .pod))
     (λ n f. rw (store-same s (w .lent)) (by-rows (put s b) n f)) (by-put s b)
 happens w (word c) = ran-case (λ o. Happens w (word c) (overDesk o w)) (wordRows c (w .lent .tables) (w .pod)) (by-rows (word c)) (by-word c)
-happens w (pipe c) = ran-case (λ o. Happens w (pipe c) (overSent o w)) (pipeRows c (w .pod)) (by-rows (pipe c)) (by-pipe c)
+happens w (lone c) = ran-case (λ o. Happens w (lone c) (overSent o w)) (loneRows c (w .pod)) (by-rows (lone c)) (by-lone c)
 happens w (samples k xs) =
     ran-case (λ o. Happens w (samples k xs) (overFrames o w)) (samplesRows k xs (w .pod)) (by-rows (samples k xs)) (by-samples k xs)

@@ -32,9 +32,10 @@ use Rattle.rules.specs.declared.Exchange.the-variants.{Closed, Status, R
 use Rattle.rules.specs.declared.Pod.{Pod}
 use Rattle.rules.specs.State.{Lent, withInitialised, withFields, withParams, withExchange, withWords, withTables, withDesk, ringOf, remainingOf, freshPod, restful, soundPod}
 use Rattle.rules.specs.Obey.{Meant, success, report, value, block, shut, initialisedPod, checksOf, doneBy, obeyOf, matches, dropFrom, settled, acknowledgedOf, reportOf}
-use Rattle.rules.specs.Calls.{powerCall, Spoken, silent, says, replied, packetHeard, meantBody, replyBytes, spokenBytes, answered, packetCall, deadlineCall, putCall, pipeCall, samplesCall}
-use Rattle.rules.specs.World.{World, world, Call, Stepped, overTables, overRoom, overNothing, overStore, overSent, overFrames, step}
-use Rattle.rules.proofs.Between.{Other, powers, sends, waits, puts, pipes, shows}
+use Rattle.rules.specs.Calls.{powerCall, Spoken, silent, says, replied, packetHeard, meantBody, replyBytes, spokenBytes, answered, packetCall, putCall, loneCall, samplesCall}
+use Rattle.rules.specs.World.{World, world, Call, Stepped, overTables, overRoom, overStore, overSent, overFrames, step}
+use Rattle.rules.proofs.Lone.{lone-rows}
+use Rattle.rules.proofs.Between.{Other, powers, sends, puts, touches, shows}
 
 -- with other words of a load
 abbrev withLoad : List ℕ → Lent → Lent
@@ -156,13 +157,13 @@ module _ (h : Header) (k j : ℕ) (along : k < h .n) (before : j < h .n) (l m : 
 
   -- a refused call leaves them; no other call but a table word tells them apart
   step-same : {c : Call} → Other c → step a c ≡ held (Load h k) l (step b c)
-  unfolding step powerCall packetCall deadlineCall putCall pipeCall samplesCall freshPod startWords
+  unfolding step powerCall packetCall putCall loneCall samplesCall freshPod startWords
   step-same powers = ran-two (λ o q. overTables o a ≡ held (Load h k) l (overTables q b)) refl (λ n. refl) (λ q. refl)
   step-same (sends d room) =
       ran-two (λ o q. overRoom o a ≡ held (Load h k) l (overRoom q b)) (rw sound-same) (λ n. refl) (λ q. heard-same room (packetRead d))
-  step-same waits = ran-two (λ o q. overNothing o a ≡ held (Load h k) l (overNothing q b)) (rw sound-same) (λ n. refl) (λ q. refl)
   step-same (puts s d) = ran-two (λ o q. overStore s o a ≡ held (Load h k) l (overStore s q b)) (rw sound-same) (λ n. refl) (λ q. refl)
-  step-same (pipes c) = ran-two (λ o q. overSent o a ≡ held (Load h k) l (overSent q b)) (rw sound-same) (λ n. refl) (λ q. refl)
+  step-same (touches c) =
+      ran-two (λ o q. overSent o a ≡ held (Load h k) l (overSent q b)) (rw (lone-rows c (a .pod), lone-rows c (b .pod), sound-same)) (λ n. refl) (λ q. refl)
   step-same (shows i xs) = ran-two (λ o q. overFrames o a ≡ held (Load h k) l (overFrames q b)) (rw sound-same) (λ n. refl) (λ q. refl)
 
 -- so of a world with an open load

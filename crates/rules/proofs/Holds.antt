@@ -3,7 +3,7 @@
 use Prim.Native.Nat.{ℕ, _-_}
 use native.Mathlib.Omega.{arith}
 use mathlib.Core.Path.{_≡_, refl, ap, _∙_}
-use mathlib.Core.Bool.{Bool, false}
+use mathlib.Core.Bool.{Bool, true, false, cond}
 use mathlib.Core.List.{List}
 use lib.Dec.{eqb}
 use borrow.Author.Tests.{ne-eqb}
@@ -22,7 +22,7 @@ use Rattle.rules.specs.Obey.{initialisedPod, doneBy, dropFrom, acknowled
 use Rattle.rules.specs.World.{World, Call, final, powered}
 use Rattle.rules.specs.History.{Event, hearsAcknowledgement, events, fold, awakeBy, exchangeBy, sameStore, acknowledged as acknowledgedBy, lessBy, fieldsBy, Fielded, freshFielded, fieldedBy}
 use Rattle.rules.specs.Replies.{awakeFrom}
-use Rattle.rules.proofs.Eventful.{Eventful, quiet, anew, initialised, slept, updated, wrote, began, closed, acknowledged, shelved, spoken, moved, Waits}
+use Rattle.rules.proofs.Eventful.{Eventful, quiet, anew, initialised, slept, updated, wrote, began, closed, acknowledged, shelved, spoken, touched, Waits}
 use Rattle.rules.proofs.Histories.{Keeps, history, powered-fresh}
 use Rattle.rules.proofs.Untouched.{acknowledged-untouched}
 use Rattle.rules.proofs.Stores.{of-changed}
@@ -43,7 +43,7 @@ awake-kept w _ _ closed b h = h
 awake-kept w _ _ (acknowledged first one k) b h = acknowledged-untouched first one (w .pod) .initialised ∙ h
 awake-kept w _ _ (shelved s q k) b h = h
 awake-kept w _ _ (spoken c k) b h = h
-awake-kept w _ _ (moved c k) b h = h
+awake-kept w _ _ (touched t) b h = h
 
 pub awake-is : (l : Lent) (cs : List Call) → final (powered l) cs .pod .initialised ≡ awakeFrom (events (powered l) cs)
 unfolding freshPod
@@ -67,6 +67,11 @@ more-waits (Receive r) s p h = (
   h .1,
 )
 
+-- closed, none is asked to
+waits-unless : (b : Bool) (x : Exchange) (p : Pod) → Waits x p → Waits (cond b Closed x) p
+waits-unless true x p h = tt
+waits-unless false x p h = h
+
 pub exchange-kept : Keeps exchangeBy Opened
 unfolding exchangeBy acknowledgedOf doneBy initialisedPod freshPod
 exchange-kept w _ _ quiet x h = h
@@ -80,7 +85,7 @@ exchange-kept w _ _ closed x h = record { exchange = refl; waits = tt }
 exchange-kept w _ _ (acknowledged first one k) x h = record { exchange = refl; waits = tt }
 exchange-kept w _ _ (shelved s b k) x h = record { exchange = h .exchange; waits = more-waits (w .pod .exchange) s (w .pod) (h .waits) }
 exchange-kept w _ _ (spoken c k) x h = record { exchange = h .exchange; waits = h .waits }
-exchange-kept w _ _ (moved c k) x h = record { exchange = h .exchange; waits = h .waits }
+exchange-kept w _ _ (touched t) x h = record { exchange = ap (λ y. cond (t .closes) Closed y) (h .exchange); waits = waits-unless (t .closes) (w .pod .exchange) (w .pod) (h .waits) }
 
 pub fresh-opened : (l : Lent) → Opened (powered l) Closed
 unfolding freshPod
@@ -118,7 +123,7 @@ fields-kept w _ _ closed x f o h = h
 fields-kept w _ _ (acknowledged first one k) x f o h = rw (← o .exchange, ← h) (settled-fields (settles first one (w .pod) (o .waits)))
 fields-kept w _ _ (shelved s b k) x f o h = h
 fields-kept w _ _ (spoken c k) x f o h = h
-fields-kept w _ _ (moved c k) x f o h = h
+fields-kept w _ _ (touched t) x f o h = h
 
 abbrev FieldedAs : World → Fielded → Type 0
 FieldedAs w a = Opened w (a .exchange) × (w .pod .fields ≡ a .fields)

@@ -1,4 +1,5 @@
 pub mod Stores
+pub mod Lone
 pub mod Happens
 pub mod Succeeded
 pub mod Eventful

@@ -26,7 +26,7 @@ use Rattle.rules.specs.History.{Event}
 use Rattle.rules.specs.Transfers.{notTaken, errsIn, errsOut, wordErrs, errorBy}
 use Rattle.rules.specs.Demands.{MessageError, StatusWordShows}
 use Rattle.rules.proofs.Happens.{Happens, by-rows, by-word, happens}
-use Rattle.rules.proofs.Eventful.{Eventful, quiet, anew, initialised, slept, updated, wrote, began, closed, acknowledged, shelved, spoken, moved, eventful}
+use Rattle.rules.proofs.Eventful.{Eventful, quiet, anew, initialised, slept, updated, wrote, began, closed, acknowledged, shelved, spoken, touched, eventful}
 use Rattle.rules.proofs.Untouched.{acknowledged-untouched}
 
 -- ---- a table word
@@ -100,7 +100,7 @@ event-errs w _ _ closed = refl
 event-errs w _ _ (acknowledged first one k) = ap (λ (q : Words). q .error) (acknowledged-untouched first one (w .pod) .words)
 event-errs w _ _ (shelved s b k) = refl
 event-errs w _ _ (spoken c k) = word-errs c (w .pod .initialised) (w .pod .words) (deskIn (w .lent))
-event-errs w _ _ (moved c k) = refl
+event-errs w _ _ (touched t) = refl
 
 pub message-error : MessageError
 message-error w c = event-errs w _ _ (eventful (happens w c))

@@ -23,7 +23,7 @@ use Rattle.rules.specs.History.{Event}
 use Rattle.rules.specs.Transfers.{isRestart, tablesIn, wordTables, tablesBy}
 use Rattle.rules.specs.Demands.{TablesOnly}
 use Rattle.rules.proofs.Happens.{happens}
-use Rattle.rules.proofs.Eventful.{Eventful, quiet, anew, initialised, slept, updated, wrote, began, closed, acknowledged, shelved, spoken, moved, eventful}
+use Rattle.rules.proofs.Eventful.{Eventful, quiet, anew, initialised, slept, updated, wrote, began, closed, acknowledged, shelved, spoken, touched, eventful}
 
 -- a command word
 order-tables : (o : Order) (t : Three) → tablesAfter o t ≡ cond (isRestart o) starts t
@@ -72,7 +72,7 @@ event-tables w _ _ closed = refl
 event-tables w _ _ (acknowledged first one k) = refl
 event-tables w _ _ (shelved s b k) = refl
 event-tables w _ _ (spoken c k) = word-tables c (w .pod .initialised) (w .pod .words) (deskIn (w .lent))
-event-tables w _ _ (moved c k) = refl
+event-tables w _ _ (touched t) = refl
 
 pub tables-only : TablesOnly
 tables-only w c = event-tables w _ _ (eventful (happens w c))

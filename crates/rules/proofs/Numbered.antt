@@ -2,20 +2,17 @@
 -- Assumes nothing.
 use Prim.Native.Nat.{ℕ}
 use mathlib.Core.Path.{_≡_, refl, sym, _∙_}
-use mathlib.Core.Bool.{Bool, true, false, not, _&&_, _||_}
+use mathlib.Core.Bool.{Bool, true, false, not, _&&_, _||_, or-false}
 use lib.Dec.{eqb, leb}
 use Rattle.rows.specs.Rows.{held}
 use Rattle.rows.proofs.Bool.{and-false}
 use Rattle.frames.specs.Samples.{boundedOf}
 use Rattle.rules.specs.Families.{command, dataIn, dataOut, status, wordLent}
-use Rattle.rules.specs.World.{World, Call, power, packet, deadline, put, word, pipe, samples, rowsOf}
-use Rattle.rules.specs.Numbered.{rowHolds}
+use Rattle.rules.specs.World.{World, Call, power, packet, put, word, lone, samples, rowsOf}
+use Rattle.rules.specs.Numbered.{isPipe, rowHolds}
 use Rattle.rules.specs.Demands.{RowsExactly}
+use Rattle.rules.proofs.Lone.{lone-rows, held-if}
 use Rattle.rules.proofs.Answered.{lowest-first}
-
-or-false : (a : Bool) → (a || false) ≡ a
-or-false true = refl
-or-false false = refl
 
 not-both : (a b : Bool) → not (a && b) ≡ (not a || not b)
 not-both true b = refl
@@ -26,14 +23,14 @@ row-is : (n : ℕ) (w : World) (c : Call) → held n (rowsOf w c) ≡ rowHolds n
 unfolding held rowsOf rowHolds wordLent
 row-is n w power = rw (and-false (eqb n 1), and-false (eqb n 3), and-false (eqb n 4), and-false (eqb n 5), and-false (eqb n 6), and-false (eqb n 7))
 row-is n w (packet b room) = rw (and-false (eqb n 4), and-false (eqb n 5), and-false (eqb n 6), and-false (eqb n 7))
-row-is n w deadline = rw (and-false (eqb n 1), and-false (eqb n 2), and-false (eqb n 4), and-false (eqb n 5), and-false (eqb n 6), and-false (eqb n 7))
 row-is n w (put s b) = rw (and-false (eqb n 1), and-false (eqb n 5), or-false (eqb n 7 && _))
 row-is n w (word (command x)) = rw (and-false (eqb n 1), and-false (eqb n 4), and-false (eqb n 5), and-false (eqb n 6), and-false (eqb n 7))
 row-is n w (word (dataIn x)) = rw (and-false (eqb n 1), and-false (eqb n 4), and-false (eqb n 5), and-false (eqb n 6), and-false (eqb n 7))
 row-is n w (word dataOut) = rw (and-false (eqb n 1), and-false (eqb n 4), and-false (eqb n 5), and-false (eqb n 6), and-false (eqb n 7))
 row-is n w (word status) =
     rw (and-false (eqb n 1), and-false (eqb n 2), and-false (eqb n 4), and-false (eqb n 5), and-false (eqb n 6), and-false (eqb n 7))
-row-is n w (pipe c) = rw (and-false (eqb n 1), and-false (eqb n 2), and-false (eqb n 4), and-false (eqb n 5), and-false (eqb n 7))
+row-is n w (lone c) =
+    rw (lone-rows c (w .pod), held-if n (isPipe c) (w .pod), and-false (eqb n 1), and-false (eqb n 2), and-false (eqb n 4), and-false (eqb n 5), and-false (eqb n 7), or-false (eqb n 6 && _))
 row-is n w (samples k xs) =
     rw (and-false (eqb n 1), and-false (eqb n 2), and-false (eqb n 6), and-false (eqb n 7), not-both (boundedOf xs) (leb k 31))
 

@@ -18,7 +18,7 @@ use Rattle.rules.specs.History.{Event}
 use Rattle.rules.specs.Port.{loadIn, wordLoads, wordHeard, Ported, ported, portedBy}
 use Rattle.rules.specs.Demands.{PortIsHistory}
 use Rattle.rules.proofs.Happens.{Happens, by-rows, by-power, happens}
-use Rattle.rules.proofs.Eventful.{Eventful, quiet, anew, initialised, slept, updated, wrote, began, closed, acknowledged, shelved, spoken, moved}
+use Rattle.rules.proofs.Eventful.{Eventful, quiet, anew, initialised, slept, updated, wrote, began, closed, acknowledged, shelved, spoken, touched}
 use Rattle.rules.proofs.Histories.{history, powered-fresh}
 use Rattle.rules.proofs.Untouched.{acknowledged-untouched}
 use Rattle.rules.proofs.MessageError.{word-errs}
@@ -71,7 +71,7 @@ event-ported w _ _ (spoken c k) =
     let on = w .pod .initialised in
     let d = deskIn (w .lent) in
     λ i. ported on (word-heard c on (w .pod .words) d i) (word-loads c on (w .pod .words) d i)
-event-ported w _ _ (moved c k) = refl
+event-ported w _ _ (touched t) = refl
 
 -- power leaves the words of a load, refused or not
 load-left : {w : World} {s : Stepped} → Happens w power s → s .world .lent .load ≡ w .lent .load

@@ -24,7 +24,7 @@ use Rattle.rules.specs.History.{Event}
 use Rattle.rules.specs.Port.{portBy, placesAfter, wordPlaces, givenAfter, givenIn, wordGives}
 use Rattle.rules.specs.Demands.{PortOnly, PlacesOnly}
 use Rattle.rules.proofs.Happens.{Happens, by-rows, by-word, happens}
-use Rattle.rules.proofs.Eventful.{Eventful, quiet, anew, initialised, slept, updated, wrote, began, closed, acknowledged, shelved, spoken, moved, eventful}
+use Rattle.rules.proofs.Eventful.{Eventful, quiet, anew, initialised, slept, updated, wrote, began, closed, acknowledged, shelved, spoken, touched, eventful}
 use Rattle.rules.proofs.Untouched.{acknowledged-untouched}
 use Rattle.rules.proofs.Answered.{answered-clear}
 
@@ -42,7 +42,7 @@ event-port w _ _ closed = refl
 event-port w _ _ (acknowledged first one k) = acknowledged-untouched first one (w .pod) .words
 event-port w _ _ (shelved s b k) = refl
 event-port w _ _ (spoken c k) = refl
-event-port w _ _ (moved c k) = refl
+event-port w _ _ (touched t) = refl
 
 pub port-only : PortOnly
 port-only w c = event-port w _ _ (eventful (happens w c))

@@ -30,15 +30,14 @@ use Rattle.rules.specs.Transfers.{Fit, cuts, cutsRead, leftOpen, callRea
 use Rattle.rules.specs.Demands.{ReadWhole, ReadEnds, ReadMoves}
 use Rattle.rules.proofs.Happens.{happens, wording}
 use Rattle.rules.proofs.Sound.{sound-next}
-use Rattle.rules.proofs.Between.{final-then, word-fit, Other, powers, sends, waits, puts, pipes, shows, Which, says, other, which, Ported, apart, ends, ported}
+use Rattle.rules.proofs.Between.{final-then, word-fit, Other, powers, sends, puts, touches, shows, Which, says, other, which, Ported, apart, ends, ported}
 
 -- no other call than a table word reads one
 reads-none : {c : Call} → Other c → callReads c ≡ 0
 reads-none powers = refl
 reads-none (sends b room) = refl
-reads-none waits = refl
 reads-none (puts s b) = refl
-reads-none (pipes c) = refl
+reads-none (touches c) = refl
 reads-none (shows k xs) = refl
 
 module _ (h : Header) (at : ℕ) (places : Places) where

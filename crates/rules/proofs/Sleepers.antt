@@ -30,11 +30,12 @@ use Rattle.rules.specs.declared.Pod.{Pod}
 use Rattle.rules.specs.State.{withParams, withRing, withWords, freshPod, soundPod, Lent, storeIn, withTables, deskIn}
 use Rattle.rules.specs.Obey.{shut, initialisedPod, checksOf, doneBy, obeyOf, matches, settled, acknowledgedOf}
 use Rattle.rules.specs.Refusals.{storeRow, stateRow, blockRow, asleepRow}
-use Rattle.rules.specs.Families.{WordCall, command, dataIn, dataOut, status, wordLent, wordOf}
-use Rattle.rules.specs.Calls.{powerCall, replied, packetHeard, meantBody, replyBytes, spokenBytes, answered, packetCall, deadlineCall, shelved, putCall, wordCall, pipeCall, samplesCall}
-use Rattle.rules.specs.World.{World, world, Call, power, packet, deadline, put, word, pipe, samples, Told, Stepped, overTables, overRoom, overNothing, overStore, overDesk, overSent, overFrames, step, next, Point, tells}
+use Rattle.rules.specs.Families.{WordCall, command, dataIn, dataOut, status, wordLent, wordOf, loneOf}
+use Rattle.rules.specs.Calls.{powerCall, replied, packetHeard, meantBody, replyBytes, spokenBytes, answered, packetCall, shelved, putCall, wordCall, reachOf, reached, loneCall, samplesCall}
+use Rattle.rules.specs.World.{World, world, Call, power, packet, put, word, lone, samples, Told, Stepped, overTables, overRoom, overStore, overDesk, overSent, overFrames, step, next, Point, tells}
 use Rattle.rules.specs.Pairs.{SizesAlike, sizesIn}
 use Rattle.rules.proofs.Stores.{store-same}
+use Rattle.rules.proofs.Lone.{lone-rows}
 use Rattle.rules.proofs.Happens.{wording}
 use Rattle.rules.proofs.Inside.{pod-in, off-closed, off-still}
 use Rattle.rules.proofs.Sound.{sound-next}
@@ -186,16 +187,16 @@ module _ (p : Pod) (q : Params) (a o : Ring) (l m : Lent) (sizes : sizesIn l ≡
   word-rows status = refl
 
   steps-alike : (c : Call) → TellAlike (step w₁ c) (step w₂ c)
-  unfolding step powerCall packetCall deadlineCall wordCall pipeCall samplesCall storeSized freshPod startWords
+  unfolding step powerCall packetCall wordCall loneCall samplesCall storeSized freshPod startWords
   steps-alike power = ran-two (λ o q. TellAlike (overTables o w₁) (overTables q w₂)) (rw (tables-same l m sizes)) (λ n. same) (λ k. anew freshPod (cleared l m sizes))
   steps-alike (packet b room) =
       ran-two (λ o q. TellAlike (overRoom o w₁) (overRoom q w₂)) (rw (store-sizes l m sizes Priority, store-sizes l m sizes Ordinary, tables-same l m sizes, first, second)) (λ n. same)
       (λ k. heard-alike room (packetRead b))
-  steps-alike deadline = ran-two (λ o q. TellAlike (overNothing o w₁) (overNothing q w₂)) (rw (first, second)) (λ n. same) (λ k. stays (shut p) off)
   steps-alike (put s b) = put-alike s b
   steps-alike (word c) = ran-two (λ o q. TellAlike (overDesk o w₁) (overDesk q w₂)) (rw (word-rows c, first, second)) (λ n. same) (λ k. word-alike c)
-  steps-alike (pipe c) =
-      ran-two (λ o q. TellAlike (overSent o w₁) (overSent q w₂)) (rw (first, second)) (λ n. same) (λ k. never (not-false (clear-head (clear-rest k))) off)
+  steps-alike (lone c) =
+      ran-two (λ o q. TellAlike (overSent o w₁) (overSent q w₂)) (rw (lone-rows c p, lone-rows c r, first, second)) (λ n. same)
+      (λ k. stays (reached (loneOf c (reachOf p)) p .pod) off)
   steps-alike (samples k xs) = ran-two (λ o q. TellAlike (overFrames o w₁) (overFrames q w₂)) (rw (first, second)) (λ n. same) (λ k. same)
 
 -- ---- for ever

@@ -3,7 +3,8 @@
 use Prim.Native.Nat.{ℕ, _-_}
 use native.Mathlib.Omega.{arith}
 use mathlib.Core.Path.{_≡_, refl, ap, _∙_}
-use mathlib.Core.Bool.{Bool, true, _||_}
+use mathlib.Core.Bool.{Bool, true, false, _||_, cond}
+use mathlib.Core.Option.{Option, none as unmoved, some}
 use lib.Dec.{eqb}
 use lib.IntN.{ℤ}
 use Rattle.rows.specs.Rows.{Clear, none, past}
@@ -32,13 +33,15 @@ use Rattle.pipe.proofs.Laws.{byte-sound, timeout-sound}
 use Rattle.rules.specs.declared.Exchange.{Exchange}
 use Rattle.rules.specs.declared.Exchange.the-variants.{Closed, Status, Read, Receive}
 use Rattle.rules.specs.declared.Pod.{Pod}
-use Rattle.rules.specs.State.{Lent, deskIn, withWords, withRemaining, ringOf, remainingOf, freshPod, soundPod}
+use Rattle.rules.specs.State.{Lent, deskIn, withExchange, withWords, withRemaining, ringOf, remainingOf, freshPod, soundPod}
 use Rattle.rules.specs.Obey.{shut, checksOf, doneBy, initialisedPod, matches, dropFrom, settled, acknowledgedOf}
 use Rattle.rules.specs.Families.{WordCall, command as commands, dataIn, dataOut, status, wordOf, PipeCall, byte, timeout, pipeOf}
-use Rattle.rules.specs.Calls.{answered}
+use Rattle.rules.specs.Calls.{reachOf, reached, answered}
 use Rattle.rules.specs.World.{World, world, Call, power, Stepped, next, powered}
+use Rattle.rules.specs.History.{Touch, loneAs}
 use Rattle.rules.specs.Demands.{KeptSound}
-use Rattle.rules.proofs.Happens.{Happens, by-rows, by-power, by-empty, by-damage, by-acknowledgement, by-check, by-command, by-deadline, by-put, by-word, by-pipe, by-samples, checks-shut, happens}
+use Rattle.rules.proofs.Lone.{movedBy, touchOf, lone-is}
+use Rattle.rules.proofs.Happens.{Happens, by-rows, by-power, by-empty, by-damage, by-acknowledgement, by-check, by-command, by-put, by-word, by-lone, by-samples, checks-shut, happens}
 use Rattle.rules.proofs.Fits.{put-fits}
 use Rattle.rules.proofs.Inside.{PodIn, in-pod, pod-in, ring-in, off-still, in-shut, in-open, in-fields, in-params, in-ring, in-pipe, in-words, in-sleep, anew-in, fresh-in}
 
@@ -112,6 +115,18 @@ unfolding pipeOf soundPipe
 pipe-sound (byte b) i h = byte-sound (i .input) b h
 pipe-sound timeout i h = timeout-sound (i .input) h
 
+-- a call that is lent nothing
+moved-sound : (m : Option PipeCall) (i : Pipe) → soundPipe i ≡ true → soundPipe (movedBy m i .pod) ≡ true
+moved-sound unmoved i h = h
+moved-sound (some c) i h = pipe-sound c i h
+
+closed-in : (b : Bool) {p : Pod} → PodIn p → PodIn (withExchange (cond b Closed (p .exchange)) p)
+closed-in true h = in-shut h
+closed-in false h = h
+
+touch-in : (t : Touch) {p : Pod} → PodIn p → PodIn (reached (touchOf t (reachOf p)) p .pod)
+touch-in t {p} h = in-pipe (closed-in (t .closes) h) _ (moved-sound (t .moves) (p .pipe) (h .pipe))
+
 -- ---- every call
 
 pub step-in : {w : World} {c : Call} {s : Stepped} → Happens w c s → PodIn (w .pod) → PodIn (s .world .pod)
@@ -124,10 +139,9 @@ step-in {w} (by-acknowledgement b room first one k e) h = acknowledged-in first 
 step-in (by-check b room c n k e f) h = in-shut h
 step-in {w} (by-command b room c k e q) h =
     command-in c (w .lent) (shut (w .pod)) (rw (← checks-shut c (w .pod)) at q) refl (in-shut h)
-step-in (by-deadline k) h = in-shut h
 step-in {w} (by-put s b k) h = in-ring h s _ (put-sound (capacityOf s) (ringOf s (w .pod)) (ring-in h s) (put-fits s b w k .free))
 step-in {w} (by-word c k) h = word-in c (deskIn (w .lent)) h
-step-in {w} (by-pipe c k) h = in-pipe h _ (pipe-sound c (w .pod .pipe) (h .pipe))
+step-in {w} (by-lone c k) h = rw (lone-is c (reachOf (w .pod))) (touch-in (loneAs c) h)
 step-in (by-samples k xs q) h = h
 
 -- so the test of the bounds passes after every call that it passed before

@@ -32,8 +32,8 @@ use Rattle.rules.specs.State.{withFields, withWords, withRing, ringOf, r
 use Rattle.rules.specs.Obey.{Meant, success, report, value, block, shut, initialisedPod, checksOf, doneBy, obeyOf, matches, dropFrom, settled, acknowledgedOf}
 use Rattle.rules.specs.Refusals.{Giving, allRow}
 use Rattle.rules.specs.Families.{WordCall, command, dataIn, dataOut, status, wordLent}
-use Rattle.rules.specs.Calls.{powerCall, Spoken, silent, says, replied, packetHeard, meantBody, replyBytes, spokenBytes, answered, packetCall, deadlineCall, putCall, wordRows, worded, wordCall, pipeCall, samplesCall}
-use Rattle.rules.specs.World.{World, world, Call, power, packet, deadline, put, word, pipe, samples, Told, Stepped, overTables, overRoom, overNothing, overStore, overDesk, overSent, overFrames, step, rowsOf, Point, point, run}
+use Rattle.rules.specs.Calls.{powerCall, Spoken, silent, says, replied, packetHeard, meantBody, replyBytes, spokenBytes, answered, packetCall, putCall, wordRows, worded, wordCall, loneCall, samplesCall}
+use Rattle.rules.specs.World.{World, world, Call, power, packet, put, word, lone, samples, Told, Stepped, overTables, overRoom, overStore, overDesk, overSent, overFrames, step, rowsOf, Point, point, run}
 use Rattle.rules.proofs.Stores.{store-same}
 use Rattle.rules.proofs.Happens.{putting, wording}
 use Rattle.rules.proofs.Inside.{pod-in, ring-in}
@@ -235,14 +235,13 @@ module _ (p : Pod) (l m : Lent) (h : Alike p l m) where
   all-same = rw (h .priority .size, h .ordinary .size)
 
   steps-same : (c : Call) → Same (step w₁ c) (step w₂ c)
-  unfolding step rowsOf powerCall packetCall deadlineCall putCall wordCall pipeCall samplesCall freshPod startWords storeSized
+  unfolding step rowsOf powerCall packetCall putCall wordCall loneCall samplesCall freshPod startWords storeSized
   steps-same power = ran-two (λ o q. Same (overTables o w₁) (overTables q w₂)) refl (λ n. same) (λ k. alone freshPod starts (cleared p h))
   steps-same (packet b room) = ran-two (λ o q. Same (overRoom o w₁) (overRoom q w₂)) (rw all-same) (λ n. same) (λ k. heard-same room (packetRead b))
-  steps-same deadline = ran-two (λ o q. Same (overNothing o w₁) (overNothing q w₂)) refl (λ n. same) (λ k. alone (shut p) (l .tables) h)
   steps-same (put s b) =
       ran-two (λ o q. Same (overStore s o w₁) (overStore s q w₂)) (rw (held p h s .size)) (λ n. rw (store-same s l, store-same s (w₂ .lent)) same) (put-same s b)
   steps-same (word c) = ran-two (λ o q. Same (overDesk o w₁) (overDesk q w₂)) refl (λ n. same) (word-same c)
-  steps-same (pipe c) = ran-two (λ o q. Same (overSent o w₁) (overSent q w₂)) refl (λ n. same) (λ k. alone _ (l .tables) h)
+  steps-same (lone c) = ran-two (λ o q. Same (overSent o w₁) (overSent q w₂)) refl (λ n. same) (λ k. alone _ (l .tables) h)
   steps-same (samples k xs) = ran-two (λ o q. Same (overFrames o w₁) (overFrames q w₂)) refl (λ n. same) (λ k. same)
 
 -- every call tells the same in twins, and leaves twins

@@ -15,16 +15,15 @@ use Rattle.packets.specs.Answers.{answerOf, errorAnswer, statusBody, valueBody}
 use Rattle.tables.specs.declared.Words.{Words}
 use Rattle.tables.specs.Tables.{Three, starts}
 use Rattle.tables.specs.Port.{Desk}
-use Rattle.pipe.specs.declared.Pipe.{Pipe}
 use Rattle.pipe.specs.declared.Sent.{Sent}
 use Rattle.pipe.specs.Input.{sentPacket}
 use Rattle.frames.specs.declared.Frames.{Frames}
 use Rattle.frames.specs.Layout.{framesOf}
 use Rattle.rules.specs.declared.Pod.{Pod}
-use Rattle.rules.specs.State.{Lent, storeIn, withWords, withRing, withPipe, ringOf, freshPod}
+use Rattle.rules.specs.State.{Lent, storeIn, withExchange, withWords, withRing, withPipe, ringOf, freshPod}
 use Rattle.rules.specs.Obey.{Meant, success, report, value, block, shut, obeyOf, acknowledgedOf, reportOf}
 use Rattle.rules.specs.Refusals.{Giving, done, bytes, Out, roomRow, allRow, storeRow, tablesRow, stateRow, blockRow, setRow, overRow, asleepRow, fullRow}
-use Rattle.rules.specs.Families.{WordCall, wordOf, wordLent, PipeCall, pipeOf}
+use Rattle.rules.specs.Families.{WordCall, wordOf, wordLent, Sends, LoneCall, deadline, pipe, Reach, reach, loneOf}
 
 -- ---- power on: lent the tables
 
@@ -89,15 +88,6 @@ packetRows d p = roomRow (d .room) ∷ allRow (d .lent) ∷ stateRow p ∷ []
 unfoldable pub packetCall : List ℕ → Roomed → Pod → Out Roomed
 packetCall b d p = ran (packetRows d p) p d (answered (packetHeard (packetRead b) (d .lent) p) (d .room))
 
--- ---- the deadline: lent nothing
-
-abbrev pub deadlineRows : Pod → List Row
-deadlineRows p = stateRow p ∷ []
-
--- "So does the deadline call (2 ms passed)": it closes an open exchange, keeping the block
-unfoldable pub deadlineCall : Pod → Out (Unit {0})
-deadlineCall p = ran (deadlineRows p) p tt (out done (shut p) tt)
-
 -- ---- a block from the camera: lent its store
 
 abbrev pub putRows : Store → List ℕ → List ℕ → Pod → List Row
@@ -121,16 +111,20 @@ worded o p = out (o .said) (withWords (o .pod) p) (o .lent)
 unfoldable pub wordCall : WordCall → Desk → Pod → Out Desk
 wordCall c d p = ran (wordRows c (d .tables) p) p d (worded (wordOf c (p .initialised) (p .words) d) p)
 
--- ---- the byte pipe: what is sent comes as nothing
+-- ---- the deadline and the byte pipe, lent nothing: what is sent comes as nothing
 
-abbrev pub pipeRows : PipeCall → Pod → List Row
-pipeRows c p = stateRow p ∷ asleepRow p ∷ []
+abbrev pub loneRows : LoneCall → Pod → List Row
+loneRows deadline p = stateRow p ∷ []
+loneRows (pipe c) p = stateRow p ∷ asleepRow p ∷ []
 
-abbrev pub passed : Left Giving Pipe Sent → Pod → Left Giving Pod Sent
-passed o p = out (o .said) (withPipe (o .pod) p) (o .lent)
+abbrev pub reachOf : Pod → Reach
+reachOf p = reach (p .exchange) (p .pipe)
 
-unfoldable pub pipeCall : PipeCall → Pod → Out Sent
-pipeCall c p = ran (pipeRows c p) p (sentPacket []) (passed (pipeOf c (p .pipe)) p)
+abbrev pub reached : Sends Reach → Pod → Left Giving Pod Sent
+reached o p = out done (withPipe (o .pod .pipe) (withExchange (o .pod .exchange) p)) (o .lent)
+
+unfoldable pub loneCall : LoneCall → Pod → Out Sent
+loneCall c p = ran (loneRows c p) p (sentPacket []) (reached (loneOf c (reachOf p)) p)
 
 -- ---- samples: the frames come as zeros
 

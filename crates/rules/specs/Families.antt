@@ -1,4 +1,4 @@
--- Calls that touch one part of the pod: the table words and the byte pipe, each over that part and what it is lent alone.
+-- Families of calls, each over the parts of the pod that it touches and what it is lent alone: table words, and calls lent nothing.
 -- Assumes nothing.
 use Prim.Native.Nat.{ℕ}
 use mathlib.Core.Bool.{Bool}
@@ -11,7 +11,9 @@ use Rattle.tables.specs.Port.{Desk, Tabled, tabled, commandOf, dataInOf, dataOu
 use Rattle.pipe.specs.declared.Pipe.{Pipe}
 use Rattle.pipe.specs.declared.Sent.{Sent}
 use Rattle.pipe.specs.declared.Piped.{Piped}
-use Rattle.pipe.specs.Input.{pipeByte, pipeTimeout}
+use Rattle.pipe.specs.Input.{sentPacket, pipeByte, pipeTimeout}
+use Rattle.rules.specs.declared.Exchange.{Exchange}
+use Rattle.rules.specs.declared.Exchange.the-variants.{Closed}
 use Rattle.rules.specs.Refusals.{Giving, done, reads, tablesRow}
 
 -- ---- the table words
@@ -49,10 +51,33 @@ pub data PipeCall : Type 0 where
   byte : ℕ → PipeCall
   timeout : PipeCall
 
--- what the input half makes of a call; what is sent is given back
-abbrev pub inputMoved : Piped → Pipe → Out Giving Pipe Sent
-inputMoved q p = out done (record { input = q .input }) (q .sent)
+-- an effect that gives back no more than what it sends: the call says done
+abbrev pub Sends : Type 0 → Type 0
+Sends P = Out (Unit {0}) P Sent
 
-unfoldable pub pipeOf : PipeCall → Pipe → Out Giving Pipe Sent
+-- what the input half makes of a call
+abbrev pub inputMoved : Piped → Pipe → Sends Pipe
+inputMoved q p = out tt (record { input = q .input }) (q .sent)
+
+unfoldable pub pipeOf : PipeCall → Pipe → Sends Pipe
 pipeOf (byte b) p = inputMoved (pipeByte (p .input) b) p
 pipeOf timeout p = inputMoved (pipeTimeout (p .input)) p
+
+-- ---- the calls that are lent nothing, and give back no more than what the pipe sends
+
+pub data LoneCall : Type 0 where
+  deadline : LoneCall
+  pipe : PipeCall → LoneCall
+
+-- all of the pod that such a call sees and touches
+pub record Reach : Type 0 where
+  pub exchange : Exchange
+  pub pipe : Pipe
+
+abbrev pub reach : Exchange → Pipe → Reach
+reach x i = record { exchange = x; pipe = i }
+
+unfoldable pub loneOf : LoneCall → Reach → Sends Reach
+-- "So does the deadline call (2 ms passed)": it closes an open exchange, keeping the block
+loneOf deadline r = out tt (reach Closed (r .pipe)) (sentPacket [])
+loneOf (pipe c) r = let o = pipeOf c (r .pipe) in out tt (reach (r .exchange) (o .pod)) (o .lent)

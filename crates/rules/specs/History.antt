@@ -3,6 +3,7 @@
 use Prim.Native.Nat.{ℕ, _+_, _-_}
 use mathlib.Core.Bool.{Bool, true, false, _&&_, _||_, cond}
 use mathlib.Core.List.{List, [], _∷_, _++_}
+use mathlib.Core.Option.{Option, none, some}
 use lib.Dec.{ltb, eqb}
 use lib.IntN.{ℤ}
 use lib.ListN.{length, drop, getD}
@@ -22,10 +23,19 @@ use Rattle.rules.specs.declared.Exchange.the-variants.{Closed, Status, R
 use Rattle.rules.specs.State.{freshFields, remainingOf, withRemaining}
 use Rattle.rules.specs.Obey.{receives}
 use Rattle.rules.specs.Refusals.{Giving, done, bytes, reads}
-use Rattle.rules.specs.Families.{WordCall, PipeCall, byte, timeout}
-use Rattle.rules.specs.World.{World, Call, power, packet, deadline, put, word, pipe, samples, Told, step, next}
+use Rattle.rules.specs.Families.{WordCall, PipeCall, byte, timeout, LoneCall, deadline, pipe}
+use Rattle.rules.specs.World.{World, Call, power, packet, put, word, lone, samples, Told, step, next}
 
 -- ---- a call with what it told, read as what happened
+
+-- of a call that is lent nothing: whether it closes an open exchange, and which pipe call it is, if any
+pub record Touch : Type 0 where
+  pub closes : Bool
+  pub moves : Option PipeCall
+
+abbrev pub loneAs : LoneCall → Touch
+loneAs deadline = record { closes = true; moves = none }
+loneAs (pipe c) = record { closes = false; moves = some c }
 
 pub data Event : Type 0 where
   -- refused, or of no concern below
@@ -37,14 +47,14 @@ pub data Event : Type 0 where
   writesParameter : ℕ → ℤ → Event
   -- a type 2 command answered without error
   opensExchange : Exchange → Event
-  -- a packet answered with an error, or the deadline
+  -- a packet answered with an error
   closesExchange : Event
   -- an acknowledgement: its first byte, and whether it is the 0x01 form
   hearsAcknowledgement : ℕ → Bool → Event
   puts : Store → List ℕ → Event
   words : WordCall → Event
-  -- a pipe call, and the bytes that it sent
-  pipes : PipeCall → List ℕ → Event
+  -- a call that is lent nothing, and the bytes that it sent
+  touches : Touch → List ℕ → Event
 
 -- a command answered without error
 abbrev pub obeyedAs : Command → Event
@@ -82,10 +92,9 @@ errored t = secondIs 0x09 (t .said) (t .bytes)
 abbrev pub givenAs : Call → Told → Event
 givenAs power t = begins false freshFields
 givenAs (packet b room) t = packetAs (packetRead b) (succeeded t)
-givenAs deadline t = closesExchange
 givenAs (put s b) t = puts s b
 givenAs (word c) t = words c
-givenAs (pipe c) t = pipes c (t .bytes)
+givenAs (lone c) t = touches (loneAs c) (t .bytes)
 givenAs (samples k xs) t = nothing
 
 abbrev pub saidAs : Said Giving → Call → Told → Event
@@ -117,7 +126,7 @@ awakeBy closesExchange b = b
 awakeBy (hearsAcknowledgement first one) b = b
 awakeBy (puts s q) b = b
 awakeBy (words c) b = b
-awakeBy (pipes c l) b = b
+awakeBy (touches t l) b = b
 
 -- ---- the exchange that is open: "A type 2 answer without error opens an exchange"; "Every other non-empty packet closes an open
 -- exchange first"; "So does the deadline call"
@@ -133,7 +142,7 @@ exchangeBy closesExchange x = Closed
 exchangeBy (hearsAcknowledgement first one) x = Closed
 exchangeBy (puts s b) x = x
 exchangeBy (words c) x = x
-exchangeBy (pipes c l) x = x
+exchangeBy (touches t l) x = cond (t .closes) Closed x
 
 abbrev pub sameStore : Store → Store → Bool
 sameStore Priority Priority = true
@@ -172,7 +181,7 @@ blocksBy s closesExchange x q = q
 blocksBy s (hearsAcknowledgement first one) x q = cond (acknowledged s first one x) (drop 1 q) q
 blocksBy s (puts r b) x q = cond (sameStore s r) (q ++ (b ∷ [])) q
 blocksBy s (words c) x q = q
-blocksBy s (pipes c l) x q = q
+blocksBy s (touches t l) x q = q
 
 abbrev pub waitingBy : Store → Event → Waiting → Waiting
 waitingBy s e x = record { exchange = exchangeBy e (x .exchange); blocks = blocksBy s e (x .exchange) (x .blocks) }
@@ -201,7 +210,7 @@ fieldsBy closesExchange x f = f
 fieldsBy (hearsAcknowledgement first one) x f = lessBy Priority first one x (lessBy Ordinary first one x f)
 fieldsBy (puts s b) x f = f
 fieldsBy (words c) x f = f
-fieldsBy (pipes c l) x f = f
+fieldsBy (touches t l) x f = f
 
 abbrev pub fieldedBy : Event → Fielded → Fielded
 fieldedBy e x = record { exchange = exchangeBy e (x .exchange); fields = fieldsBy e (x .exchange) (x .fields) }
@@ -219,7 +228,7 @@ valueBy id closesExchange v = v
 valueBy id (hearsAcknowledgement first one) v = v
 valueBy id (puts s b) v = v
 valueBy id (words c) v = v
-valueBy id (pipes c l) v = v
+valueBy id (touches t l) v = v
 
 unfoldable pub markBy : ℕ → Event → Bool → Bool
 markBy id nothing m = m
@@ -232,7 +241,7 @@ markBy id closesExchange m = m
 markBy id (hearsAcknowledgement first one) m = m
 markBy id (puts s b) m = m
 markBy id (words c) m = m
-markBy id (pipes c l) m = m
+markBy id (touches t l) m = m
 
 -- ---- the pipe, since the beginning: by the calls' own inputs, and by the bytes that they gave
 
@@ -254,6 +263,11 @@ unfoldable pub flowAfter : PipeCall → Flow → Flow
 flowAfter (byte b) f = flow (f .accepted ++ (b ∷ [])) (cond (ltb (length (f .gathered)) 7) (f .gathered ++ (b ∷ [])) []) (f .timeouts)
 flowAfter timeout f = flow (f .accepted) [] (cond (eqb (length (f .gathered)) 0) (f .timeouts) (f .timeouts + 1))
 
+-- with no pipe call it is as it was
+abbrev pub flowMoved : Option PipeCall → Flow → Flow
+flowMoved none f = f
+flowMoved (some c) f = flowAfter c f
+
 unfoldable pub flowBy : Event → Flow → Flow
 flowBy nothing f = f
 flowBy (begins a g) f = noFlow
@@ -265,7 +279,7 @@ flowBy closesExchange f = f
 flowBy (hearsAcknowledgement first one) f = f
 flowBy (puts s b) f = f
 flowBy (words c) f = f
-flowBy (pipes c l) f = flowAfter c f
+flowBy (touches t l) f = flowMoved (t .moves) f
 
 -- the bytes sent
 unfoldable pub sentBy : Event → List ℕ → List ℕ
@@ -279,4 +293,4 @@ sentBy closesExchange s = s
 sentBy (hearsAcknowledgement first one) s = s
 sentBy (puts r b) s = s
 sentBy (words c) s = s
-sentBy (pipes c l) s = s ++ l
+sentBy (touches t l) s = s ++ l

@@ -2,7 +2,7 @@
 -- applies only to calls that are lent the thing."
 -- Assumes nothing.
 use Prim.Native.Nat.{ℕ}
-use mathlib.Core.Bool.{Bool, false, not, _&&_, _||_}
+use mathlib.Core.Bool.{Bool, true, false, not, _&&_, _||_}
 use lib.Dec.{ltb, leb, eqb}
 use lib.ListN.{length}
 use Rattle.blocks.specs.declared.Store.the-variants.{Priority, Ordinary}
@@ -11,17 +11,16 @@ use Rattle.tables.specs.Tables.{tablesSized}
 use Rattle.frames.specs.Samples.{boundedOf}
 use Rattle.rules.specs.declared.Pod.{Pod}
 use Rattle.rules.specs.State.{Lent, storeIn, ringOf, soundPod}
-use Rattle.rules.specs.Families.{command, dataIn, dataOut, status}
-use Rattle.rules.specs.World.{World, Call, power, packet, deadline, put, word, pipe, samples}
+use Rattle.rules.specs.Families.{command, dataIn, dataOut, status, LoneCall, deadline, pipe}
+use Rattle.rules.specs.World.{World, Call, power, packet, put, word, lone, samples}
 
 -- 1: "packet call: answer room under 260 bytes"
 abbrev pub roomShort : Call → Bool
 roomShort power = false
 roomShort (packet b room) = ltb (length room) 260
-roomShort deadline = false
 roomShort (put s b) = false
 roomShort (word c) = false
-roomShort (pipe c) = false
+roomShort (lone c) = false
 roomShort (samples k xs) = false
 
 -- 2: "a lent store or table is not its exact size": a packet is lent all, a put its store, power and the words the tables, but
@@ -29,63 +28,61 @@ roomShort (samples k xs) = false
 abbrev pub sizeWrong : Call → Lent → Bool
 sizeWrong power l = not (tablesSized (l .tables))
 sizeWrong (packet b room) l = not (storeSized Priority (l .priority) && (storeSized Ordinary (l .ordinary) && tablesSized (l .tables)))
-sizeWrong deadline l = false
 sizeWrong (put s b) l = not (storeSized s (storeIn s l))
 sizeWrong (word (command x)) l = not (tablesSized (l .tables))
 sizeWrong (word (dataIn x)) l = not (tablesSized (l .tables))
 sizeWrong (word dataOut) l = not (tablesSized (l .tables))
 sizeWrong (word status) l = false
-sizeWrong (pipe c) l = false
+sizeWrong (lone c) l = false
 sizeWrong (samples k xs) l = false
 
 -- 3: "the state handed in breaks a bound below": power alone is handed none
 abbrev pub stateBroken : Call → Pod → Bool
 stateBroken power p = false
 stateBroken (packet b room) p = not (soundPod p)
-stateBroken deadline p = not (soundPod p)
 stateBroken (put s b) p = not (soundPod p)
 stateBroken (word c) p = not (soundPod p)
-stateBroken (pipe c) p = not (soundPod p)
+stateBroken (lone c) p = not (soundPod p)
 stateBroken (samples k xs) p = not (soundPod p)
 
 -- 4: "a block is not 256 bytes, or a sample set not 128 numbers"
 abbrev pub countWrong : Call → Bool
 countWrong power = false
 countWrong (packet b room) = false
-countWrong deadline = false
 countWrong (put s b) = not (eqb (length b) 256)
 countWrong (word c) = false
-countWrong (pipe c) = false
+countWrong (lone c) = false
 countWrong (samples k xs) = not (eqb (length xs) 128)
 
 -- 5: "a sample is over 1,023, or the self-check number over 31"
 abbrev pub numberOver : Call → Bool
 numberOver power = false
 numberOver (packet b room) = false
-numberOver deadline = false
 numberOver (put s b) = false
 numberOver (word c) = false
-numberOver (pipe c) = false
+numberOver (lone c) = false
 numberOver (samples k xs) = not (boundedOf xs) || not (leb k 31)
 
 -- 6: "block or pipe call while the pod is not initialised"
+abbrev pub isPipe : LoneCall → Bool
+isPipe deadline = false
+isPipe (pipe c) = true
+
 abbrev pub podAsleep : Call → Pod → Bool
 podAsleep power p = false
 podAsleep (packet b room) p = false
-podAsleep deadline p = false
 podAsleep (put s b) p = not (p .initialised)
 podAsleep (word c) p = false
-podAsleep (pipe c) p = not (p .initialised)
+podAsleep (lone c) p = isPipe c && not (p .initialised)
 podAsleep (samples k xs) p = false
 
 -- 7: "that store is full"
 abbrev pub storeFull : Call → Pod → Bool
 storeFull power p = false
 storeFull (packet b room) p = false
-storeFull deadline p = false
 storeFull (put s b) p = leb (capacityOf s) (ringOf s p .waiting)
 storeFull (word c) p = false
-storeFull (pipe c) p = false
+storeFull (lone c) p = false
 storeFull (samples k xs) p = false
 
 -- the row of a number holds; no other number has a row

@@ -18,7 +18,7 @@ use Rattle.tables.specs.Tables.{readPlace, withReadPlace}
 use Rattle.orders.specs.Command.{orderHeard}
 use Rattle.tables.specs.Port.{Desk, startWords, header, closeOf, beginsAt}
 use Rattle.rules.specs.Families.{WordCall, command, dataIn, dataOut, status, wordOf}
-use Rattle.rules.specs.History.{Event, nothing, begins, sleeps, updates, writesParameter, opensExchange, closesExchange, hearsAcknowledgement, puts, words, pipes}
+use Rattle.rules.specs.History.{Event, nothing, begins, sleeps, updates, writesParameter, opensExchange, closesExchange, hearsAcknowledgement, puts, words, touches}
 use Rattle.rules.specs.Transfers.{notTaken, wordErrs}
 
 -- all of the port: Initialise and power leave it as from power, Shutdown "closes an open transfer", a table word does what it does, and
@@ -34,7 +34,7 @@ portBy closesExchange on w d = w
 portBy (hearsAcknowledgement first one) on w d = w
 portBy (puts s b) on w d = w
 portBy (words c) on w d = wordOf c on w d .pod
-portBy (pipes c l) on w d = w
+portBy (touches t l) on w d = w
 
 -- "An accepted read at once puts that place just behind its last data word"; "read places 0"
 abbrev pub placesAfter : Order → Words → Places
@@ -150,4 +150,4 @@ portedBy closesExchange p = p
 portedBy (hearsAcknowledgement first one) p = p
 portedBy (puts s b) p = p
 portedBy (words c) p = ported (p .awake) (wordHeard c (p .awake) (p .words) (p .load)) (wordLoads c (p .words .transfer) (p .load))
-portedBy (pipes c l) p = p
+portedBy (touches t l) p = p

@@ -3,32 +3,37 @@
 use mathlib.Core.Path.{_≡_}
 use mathlib.Core.Bool.{Bool, true, false}
 use mathlib.Core.List.{[]}
+use mathlib.Core.Option.{Option, none, some}
 use Rattle.rows.specs.Rows.{gave}
 use Rattle.rules.specs.Refusals.{done}
-use Rattle.rules.specs.Families.{command, dataIn, dataOut, status}
-use Rattle.rules.specs.World.{World, Call, power, packet, deadline, put, word, pipe, samples, isAnswered, step}
+use Rattle.rules.specs.Families.{command, dataIn, dataOut, status, PipeCall}
+use Rattle.rules.specs.World.{World, Call, power, packet, put, word, lone, samples, isAnswered, step}
+use Rattle.rules.specs.History.{loneAs}
 
 -- the length of an answer, a word
 abbrev pub givesNumber : Call → Bool
 givesNumber power = false
 givesNumber (packet b room) = true
-givesNumber deadline = false
 givesNumber (put s b) = false
 givesNumber (word (command x)) = false
 givesNumber (word (dataIn x)) = false
 givesNumber (word dataOut) = true
 givesNumber (word status) = true
-givesNumber (pipe c) = false
+givesNumber (lone c) = false
 givesNumber (samples k xs) = false
+
+-- a pipe call, or none
+abbrev pub isMove : Option PipeCall → Bool
+isMove none = false
+isMove (some c) = true
 
 -- the answer room, what the pipe sent, two frames
 abbrev pub givesBytes : Call → Bool
 givesBytes power = false
 givesBytes (packet b room) = true
-givesBytes deadline = false
 givesBytes (put s b) = false
 givesBytes (word c) = false
-givesBytes (pipe c) = true
+givesBytes (lone c) = isMove (loneAs c .moves)
 givesBytes (samples k xs) = true
 
 -- where there is no number to give it says done, and there are no bytes where there are none to give

@@ -19,8 +19,8 @@ use Rattle.orders.specs.Command.{tableNumber, orderHeard}
 use Rattle.tables.specs.Port.{Desk, desk, dataCount, fits, header, isOpen, beginsAt, closeOf, withTransfer, withError, loadRight, storedIn}
 use Rattle.rules.specs.State.{soundPod, withWords, withDesk}
 use Rattle.rules.specs.Families.{WordCall, command, dataIn, dataOut, status}
-use Rattle.rules.specs.World.{World, world, withPod, Call, power, packet, deadline, put, word, pipe, samples, next}
-use Rattle.rules.specs.History.{Event, nothing, begins, sleeps, updates, writesParameter, opensExchange, closesExchange, hearsAcknowledgement, puts, words, pipes, events}
+use Rattle.rules.specs.World.{World, world, withPod, Call, power, packet, put, word, lone, samples, next}
+use Rattle.rules.specs.History.{Event, nothing, begins, sleeps, updates, writesParameter, opensExchange, closesExchange, hearsAcknowledgement, puts, words, touches, events}
 
 -- a world in which no row that applies to a table word holds
 pub record Fit (w : World) : Type 0 where
@@ -56,7 +56,7 @@ cuts f closesExchange = false
 cuts f (hearsAcknowledgement first one) = false
 cuts f (puts s b) = false
 cuts f (words c) = f c
-cuts f (pipes c l) = false
+cuts f (touches t l) = false
 
 -- none of these does
 unfoldable pub leftOpen : (WordCall → Bool) → List Event → Bool
@@ -73,10 +73,9 @@ dataWritten status = []
 abbrev pub callWritten : Call → List ℕ
 callWritten power = []
 callWritten (packet b room) = []
-callWritten deadline = []
 callWritten (put s b) = []
 callWritten (word c) = dataWritten c
-callWritten (pipe c) = []
+callWritten (lone c) = []
 callWritten (samples k xs) = []
 
 abbrev pub wordReads : WordCall → ℕ
@@ -88,10 +87,9 @@ wordReads status = 0
 abbrev pub callReads : Call → ℕ
 callReads power = 0
 callReads (packet b room) = 0
-callReads deadline = 0
 callReads (put s b) = 0
 callReads (word c) = wordReads c
-callReads (pipe c) = 0
+callReads (lone c) = 0
 callReads (samples k xs) = 0
 
 -- the data words written among some calls, the other calls, and how many data words are read
@@ -204,7 +202,7 @@ errorBy closesExchange on w l e = e
 errorBy (hearsAcknowledgement first one) on w l e = e
 errorBy (puts s b) on w l e = e
 errorBy (words c) on w l e = wordErrs c on w l e
-errorBy (pipes c b) on w l e = e
+errorBy (touches t b) on w l e = e
 
 -- ---- the tables
 
@@ -241,4 +239,4 @@ tablesBy closesExchange on w d = d .tables
 tablesBy (hearsAcknowledgement first one) on w d = d .tables
 tablesBy (puts s b) on w d = d .tables
 tablesBy (words c) on w d = wordTables c on w d
-tablesBy (pipes c l) on w d = d .tables
+tablesBy (touches t l) on w d = d .tables

@@ -15,8 +15,8 @@ use Rattle.frames.specs.declared.Frames.{Frames}
 use Rattle.rules.specs.declared.Pod.{Pod}
 use Rattle.rules.specs.State.{freshPod, Lent, storeIn, withStore, withTables, deskIn, withDesk}
 use Rattle.rules.specs.Refusals.{Giving, bytes, Out}
-use Rattle.rules.specs.Families.{WordCall, PipeCall}
-use Rattle.rules.specs.Calls.{powerRows, powerCall, Roomed, roomed, packetRows, packetCall, deadlineRows, deadlineCall, putRows, putCall, wordRows, wordCall, pipeRows, pipeCall, samplesRows, samplesCall}
+use Rattle.rules.specs.Families.{WordCall, LoneCall}
+use Rattle.rules.specs.Calls.{powerRows, powerCall, Roomed, roomed, packetRows, packetCall, putRows, putCall, wordRows, wordCall, loneRows, loneCall, samplesRows, samplesCall}
 
 pub record World : Type 0 where
   pub pod : Pod
@@ -28,15 +28,14 @@ world p l = record { pod = p; lent = l }
 abbrev pub withPod : Pod → World → World
 withPod p w = world p (w .lent)
 
--- a call, with what it brings; calls that touch one part of the pod are a family
+-- a call, with what it brings; the table words, and the calls that are lent nothing, are a family each
 pub data Call : Type 0 where
   power : Call
   -- a packet, and the answer room
   packet : List ℕ → List ℕ → Call
-  deadline : Call
   put : Store → List ℕ → Call
   word : WordCall → Call
-  pipe : PipeCall → Call
+  lone : LoneCall → Call
   -- the self-check number, and the sample set
   samples : ℕ → List ℕ → Call
 
@@ -44,10 +43,9 @@ pub data Call : Type 0 where
 abbrev pub roomOf : Call → List ℕ
 roomOf power = []
 roomOf (packet b room) = room
-roomOf deadline = []
 roomOf (put s b) = []
 roomOf (word c) = []
-roomOf (pipe c) = []
+roomOf (lone c) = []
 roomOf (samples k xs) = []
 
 -- what a call tells: what it says, and the bytes that it gives: the room after a packet, what the pipe sent, two frames
@@ -77,9 +75,6 @@ overTables o w = stepped (o .said) [] (o .pod) (withTables (o .lent) (w .lent))
 abbrev pub overRoom : Out Roomed → World → Stepped
 overRoom o w = stepped (o .said) (o .lent .room) (o .pod) (o .lent .lent)
 
-abbrev pub overNothing : Out (Unit {0}) → World → Stepped
-overNothing o w = stepped (o .said) [] (o .pod) (w .lent)
-
 abbrev pub overStore : Store → Out (List ℕ) → World → Stepped
 overStore s o w = stepped (o .said) [] (o .pod) (withStore s (o .lent) (w .lent))
 
@@ -101,20 +96,18 @@ overFrames o w = stepped (o .said) (framesIn (o .said) (o .lent)) (o .pod) (w .l
 unfoldable pub step : World → Call → Stepped
 step w power = overTables (powerCall (w .lent .tables) (w .pod)) w
 step w (packet b room) = overRoom (packetCall b (roomed room (w .lent)) (w .pod)) w
-step w deadline = overNothing (deadlineCall (w .pod)) w
 step w (put s b) = overStore s (putCall s b (storeIn s (w .lent)) (w .pod)) w
 step w (word c) = overDesk (wordCall c (deskIn (w .lent)) (w .pod)) w
-step w (pipe c) = overSent (pipeCall c (w .pod)) w
+step w (lone c) = overSent (loneCall c (w .pod)) w
 step w (samples k xs) = overFrames (samplesCall k xs (w .pod)) w
 
 -- the rows that apply to a call, in the order in which they are judged
 unfoldable pub rowsOf : World → Call → List Row
 rowsOf w power = powerRows (w .lent .tables)
 rowsOf w (packet b room) = packetRows (roomed room (w .lent)) (w .pod)
-rowsOf w deadline = deadlineRows (w .pod)
 rowsOf w (put s b) = putRows s b (storeIn s (w .lent)) (w .pod)
 rowsOf w (word c) = wordRows c (w .lent .tables) (w .pod)
-rowsOf w (pipe c) = pipeRows c (w .pod)
+rowsOf w (lone c) = loneRows c (w .pod)
 rowsOf w (samples k xs) = samplesRows k xs (w .pod)
 
 abbrev pub next : World → Call → World

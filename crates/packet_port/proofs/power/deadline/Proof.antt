@@ -3,13 +3,14 @@ use Rattle.rows.specs.Rows.{here, none, past}
 use Rattle.rows.proofs.Bool.{as-row}
 use Rattle.rows.proofs.Laws.{refused-is, given-is}
 use Rattle.rules.specs.Refusals.{refusalNumber, answerSaid}
-use Rattle.rules.specs.Calls.{deadlineCall}
+use Rattle.rules.specs.Families.{loneOf}
+use Rattle.rules.specs.Calls.{loneCall}
 use borrow.Author.Needs.{needs}
 use Rattle.packet_port.proofs.power.deadline.Statement.{statement}
 use Rattle.packet_port.proofs.power.deadline.Tie as tie
 
 pub deadline-spec : {M : Type 1} → statement M
-unfolding deadlineCall answerSaid refusalNumber
+unfolding loneCall loneOf answerSaid refusalNumber
 deadline-spec =
     tie.close (tie.spec (λ c κs. search needs) (λ c. refused-is _ _ _ (here (as-row (c .before .sound .ensures) (c .if1 .taken))))
     (λ c κs. search needs)
