@@ -6,6 +6,7 @@ pub mod Histories
 pub mod Untouched
 pub mod Flow
 pub mod Frames
+pub mod Heard
 pub mod NoOther
 pub mod MessageError
 pub mod Inside

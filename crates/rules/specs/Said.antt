@@ -5,7 +5,7 @@ use mathlib.Core.Bool.{Bool, true, false}
 use mathlib.Core.List.{[]}
 use Rattle.rows.specs.Rows.{gave}
 use Rattle.rules.specs.Refusals.{done}
-use Rattle.rules.specs.Families.{command, dataIn, dataOut, status}
+use Rattle.rules.specs.Traits.{traits}
 use Rattle.rules.specs.World.{World, Call, power, packet, deadline, put, word, pipe, samples, isAnswered, step}
 
 -- the length of an answer, a word
@@ -14,10 +14,7 @@ givesNumber power = false
 givesNumber (packet b room) = true
 givesNumber deadline = false
 givesNumber (put s b) = false
-givesNumber (word (command x)) = false
-givesNumber (word (dataIn x)) = false
-givesNumber (word dataOut) = true
-givesNumber (word status) = true
+givesNumber (word c) = traits c .gives
 givesNumber (pipe c) = false
 givesNumber (samples k xs) = false
 
