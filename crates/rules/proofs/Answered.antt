@@ -4,17 +4,20 @@
 use Prim.Native.Nat.{ℕ}
 use mathlib.Core.Path.{_≡_, refl, sym, ap, _∙_}
 use mathlib.Core.Bool.{true, false}
-use mathlib.Core.List.{[]}
-use Rattle.rows.specs.Rows.{First, Clear, refused, gave, rising}
-use Rattle.rows.proofs.Bool.{never, not-true}
+use mathlib.Core.List.{List, [], _∷_, _++_}
+use Rattle.rows.specs.Rows.{Row, First, Clear, refused, gave, rising}
+use Rattle.rows.proofs.Bool.{by-test, never, not-true}
 use Rattle.rows.proofs.Laws.{never-both, first-one, refused-same, gave-not}
 use Rattle.rows.proofs.Lowest.{lowest}
-use Rattle.rules.specs.Refusals.{Giving, done}
-use Rattle.rules.specs.Families.{command, dataIn, dataOut, status, wordLent, byte, timeout, wordOf, pipeOf}
+use Rattle.rules.specs.State.{deskIn}
+use Rattle.rules.specs.Refusals.{Giving, done, stateRow}
+use Rattle.rules.specs.Families.{byte, timeout, pipeOf}
+use Rattle.rules.specs.Traits.{traits}
 use Rattle.rules.specs.World.{World, Call, power, packet, deadline, put, word, pipe, samples, roomOf, Told, Stepped, stepped, isAnswered, isRefused, step, rowsOf}
 use Rattle.rules.specs.Demands.{AlwaysAnswered, LowestFirst, RefusedUnchanged}
 use Rattle.rules.specs.Said.{givesNumber, givesBytes, SaysDone}
 use Rattle.rules.proofs.Happens.{Happens, by-rows, by-power, by-empty, by-damage, by-acknowledgement, by-check, by-command, by-deadline, by-put, by-word, by-pipe, by-samples, happens}
+use Rattle.rules.proofs.WordRows.{rowed}
 
 -- how a call ends: refused by its first row that holds, or answered
 pub data Ends (w : World) (c : Call) (s : Stepped) : Type 0 where
@@ -67,15 +70,13 @@ refused-unchanged w c n s = on (ends (happens w c))
     on (answered g k e) = absurd (gave-not (sym e ∙ s))
 
 rows-rise : (w : World) (c : Call) → rising 0 (rowsOf w c) ≡ true
-unfolding rising rowsOf wordLent
+unfolding rising rowsOf
 rows-rise w power = refl
 rows-rise w (packet b room) = refl
 rows-rise w deadline = refl
 rows-rise w (put s b) = refl
-rows-rise w (word (command x)) = refl
-rows-rise w (word (dataIn x)) = refl
-rows-rise w (word dataOut) = refl
-rows-rise w (word status) = refl
+rows-rise w (word c) =
+    rw (rowed c .rows (w .lent .tables)) (by-test (λ (rs : List Row). rising 0 (rs ++ (stateRow (w .pod) ∷ [])) ≡ true) (traits c .lent) (λ e. refl) (λ e. refl))
 rows-rise w (pipe c) = refl
 rows-rise w (samples k xs) = refl
 
@@ -92,7 +93,7 @@ Gives : Call → Told → Type 0
 Gives c t = (givesNumber c ≡ false → t .said ≡ gave done) × (givesBytes c ≡ false → t .bytes ≡ [])
 
 gives : {w : World} {c : Call} {s : Stepped} → Happens w c s → isRefused (s .told .said) ≡ false → Gives c (s .told)
-unfolding Gives wordOf pipeOf
+unfolding Gives pipeOf
 gives (by-rows c n f) a = never refl a
 gives (by-power k) a = (λ e. refl, λ e. refl)
 gives (by-empty b room k e) a = (λ z. never refl z, λ z. never refl z)
@@ -102,10 +103,7 @@ gives (by-check b room c n k e f) a = (λ z. never refl z, λ z. never refl z)
 gives (by-command b room c k e q) a = (λ z. never refl z, λ z. never refl z)
 gives (by-deadline k) a = (λ e. refl, λ e. refl)
 gives (by-put s b k) a = (λ e. refl, λ e. refl)
-gives (by-word (command x) k) a = (λ e. refl, λ e. refl)
-gives (by-word (dataIn x) k) a = (λ e. refl, λ e. refl)
-gives (by-word dataOut k) a = (λ z. never refl z, λ e. refl)
-gives (by-word status k) a = (λ z. never refl z, λ e. refl)
+gives {w} (by-word c k) a = (λ e. ap gave (rowed c .said (w .pod .initialised) (w .pod .words) (deskIn (w .lent)) e), λ e. refl)
 gives (by-pipe (byte b) k) a = (λ e. refl, λ z. never refl z)
 gives (by-pipe timeout k) a = (λ e. refl, λ z. never refl z)
 gives (by-samples n xs k) a = (λ e. refl, λ z. never refl z)

@@ -18,6 +18,7 @@ pub mod Blocks
 pub mod Replied
 pub mod Asked
 pub mod Sound
+pub mod WordRows
 pub mod Answered
 pub mod Numbered
 pub mod Checked

@@ -36,6 +36,7 @@ use Rattle.rules.specs.World.{World, world, Call, power, packet, deadlin
 use Rattle.rules.specs.Pairs.{SizesAlike, sizesIn}
 use Rattle.rules.proofs.Stores.{store-same}
 use Rattle.rules.proofs.Happens.{wording}
+use Rattle.rules.proofs.WordRows.{rowed}
 use Rattle.rules.proofs.Inside.{pod-in, off-closed, off-still}
 use Rattle.rules.proofs.Sound.{sound-next}
 use Rattle.rules.proofs.WordsAlike.{none-came}
@@ -179,11 +180,7 @@ module _ (p : Pod) (q : Params) (a o : Ring) (l m : Lent) (sizes : sizesIn l ≡
       rw (e, g) (stays (withWords (y .pod) p) off)
 
   word-rows : (c : WordCall) → wordLent c (l .tables) ≡ wordLent c (m .tables)
-  unfolding wordLent
-  word-rows (command x) = rw (tables-same l m sizes)
-  word-rows (dataIn x) = rw (tables-same l m sizes)
-  word-rows dataOut = rw (tables-same l m sizes)
-  word-rows status = refl
+  word-rows c = rw (rowed c .rows (l .tables), rowed c .rows (m .tables), tables-same l m sizes)
 
   steps-alike : (c : Call) → TellAlike (step w₁ c) (step w₂ c)
   unfolding step powerCall packetCall deadlineCall wordCall pipeCall samplesCall storeSized freshPod startWords

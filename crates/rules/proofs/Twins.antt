@@ -4,10 +4,10 @@
 use Prim.Native.Nat.{ℕ, _-_}
 use mathlib.Core.Path.{_≡_, refl, sym, ap, ap₂, _∙_}
 use mathlib.Core.Bool.{Bool, true, _||_}
-use mathlib.Core.List.{List, [], _∷_}
+use mathlib.Core.List.{List, [], _∷_, _++_}
 use lib.Dec.{eqb}
 use lib.ListN.{length}
-use Rattle.rows.specs.Rows.{Clear, Said, refused, gave, Out, out, given}
+use Rattle.rows.specs.Rows.{Row, Clear, Said, refused, gave, Out, out, given}
 use Rattle.rows.proofs.Bool.{by-test, not-false}
 use Rattle.rows.proofs.Laws.{clear-head, clear-rest, ran-two}
 use Rattle.blocks.specs.declared.Store.{Store}
@@ -30,8 +30,8 @@ use Rattle.rules.specs.declared.Exchange.the-variants.{Closed, Status, R
 use Rattle.rules.specs.declared.Pod.{Pod}
 use Rattle.rules.specs.State.{withFields, withWords, withRing, ringOf, remainingOf, withRemaining, freshPod, soundPod, Lent, storeIn, withStore, withTables, withDesk}
 use Rattle.rules.specs.Obey.{Meant, success, report, value, block, shut, initialisedPod, checksOf, doneBy, obeyOf, matches, dropFrom, settled, acknowledgedOf}
-use Rattle.rules.specs.Refusals.{Giving, allRow}
-use Rattle.rules.specs.Families.{WordCall, command, dataIn, dataOut, status, wordLent}
+use Rattle.rules.specs.Refusals.{Giving, allRow, stateRow}
+use Rattle.rules.specs.Families.{WordCall, wordLent}
 use Rattle.rules.specs.Calls.{powerCall, Spoken, silent, says, replied, packetHeard, meantBody, replyBytes, spokenBytes, answered, packetCall, deadlineCall, putCall, wordRows, worded, wordCall, pipeCall, samplesCall}
 use Rattle.rules.specs.World.{World, world, Call, power, packet, deadline, put, word, pipe, samples, Told, Stepped, overTables, overRoom, overNothing, overStore, overDesk, overSent, overFrames, step, rowsOf, Point, point, run}
 use Rattle.rules.proofs.Stores.{store-same}
@@ -132,11 +132,11 @@ module _ (l m : Lent) where
 
 -- where no row of a table word holds, the pod is sound
 sound-word : (c : WordCall) (t : Three) (p : Pod) → Clear (wordRows c t p) → soundPod p ≡ true
-unfolding wordLent
-sound-word (command x) t p k = not-false (clear-head (clear-rest k))
-sound-word (dataIn x) t p k = not-false (clear-head (clear-rest k))
-sound-word dataOut t p k = not-false (clear-head (clear-rest k))
-sound-word status t p k = not-false (clear-head k)
+sound-word c t p k = on (wordLent c t) k
+  where
+    on : (rs : List Row) → Clear (rs ++ (stateRow p ∷ [])) → soundPod p ≡ true
+    on [] k = not-false (clear-head k)
+    on (r ∷ rs) k = on rs (clear-rest k)
 
 -- ---- what an answer shows
 
