@@ -17,6 +17,8 @@ pub mod Written
 pub mod Blocks
 pub mod Replied
 pub mod Asked
+pub mod WordsAlike
+pub mod Fares
 pub mod Sound
 pub mod WordRows
 pub mod Answered
@@ -24,7 +26,6 @@ pub mod Numbered
 pub mod Checked
 pub mod Judged
 pub mod Kept
-pub mod WordsAlike
 pub mod Twins
 pub mod Said
 pub mod Between

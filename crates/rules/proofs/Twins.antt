@@ -39,7 +39,8 @@ use Rattle.rules.proofs.Happens.{putting, wording}
 use Rattle.rules.proofs.Inside.{pod-in, ring-in}
 use Rattle.rules.proofs.Fits.{PutFits, put-fits}
 use Rattle.tables.proofs.Stale.{gathered as cameOf}
-use Rattle.rules.proofs.WordsAlike.{Gathered, none-came, SameDesk, same-desk, words-alike}
+use Rattle.rules.proofs.WordsAlike.{Gathered, none-came, SameDesk, same-desk}
+use Rattle.rules.proofs.Fares.{fares}
 
 -- ---- one store
 
@@ -223,7 +224,7 @@ module _ (p : Pod) (l m : Lent) (h : Alike p l m) where
   put-same s b k = record { points = refl; twins = twin _ _ _ (added p h s b (put-fits s b w₁ k)) }
 
   word-same : (c : WordCall) → Clear (wordRows c (l .tables) p) → Same (wording c w₁) (wording c w₂)
-  word-same c k = on (words-alike c (p .initialised) (p .words) (l .tables) (l .load) (m .load) (pod-in p (sound-word c (l .tables) p k) .words) (h .load))
+  word-same c k = on (fares c .alike (p .initialised) (p .words) (l .tables) (l .load) (m .load) (pod-in p (sound-word c (l .tables) p k) .words) (h .load))
     where
       on : {o q : Out Giving Words Desk} → SameDesk o q → Same (overDesk (given (worded o p)) w₁) (overDesk (given (worded q p)) w₂)
       on (same-desk g x t d e k) =

@@ -59,15 +59,7 @@ given-none (Load h k) w t = refl
 given-none (Read h k at) w t = by-test (λ (u : Transfer). cameOf u ≡ 0) (ltb (k + 1) (h .n)) (λ e. refl) (λ e. refl)
 
 -- a data word written, by the same words of a load
-unseen-same : (y d : Tabled) → Unseen y d
+pub unseen-same : (y d : Tabled) → Unseen y d
     → SameDesk (out done (y .words) (desk (y .desk .tables) (y .desk .load))) (out done (d .words) (desk (d .desk .tables) (d .desk .load)))
 unseen-same y d u =
     rw (u .words, u .tables) (same-desk done (d .words) (d .desk .tables) (y .desk .load) (d .desk .load) (record { long = u .long; came = u .first }))
-
-pub words-alike : (c : WordCall) (on : Bool) (w : Words) (t : Three) (d e : List ℕ) → soundWords w ≡ true → Gathered (cameOf (w .transfer)) d e
-    → SameDesk (wordOf c on w (desk t d)) (wordOf c on w (desk t e))
-unfolding wordOf commandOf dataOutOf statusOf
-words-alike (command x) on w t d e ok g = same-desk done _ _ d e (none-came _ (obeyed-none (orderHeard on x) w) (g .long))
-words-alike (dataIn x) on w t d e ok g = unseen-same _ _ (data-in-unseen x w t d e (g .long) ok (g .came))
-words-alike dataOut on w t d e ok g = same-desk _ _ _ d e (none-came _ (given-none (w .transfer) w t) (g .long))
-words-alike status on w t d e ok g = same-desk _ _ _ d e g
