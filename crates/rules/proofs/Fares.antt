@@ -16,7 +16,7 @@ use Rattle.tables.specs.declared.Transfer.{Transfer}
 use Rattle.tables.specs.declared.Transfer.the-variants.{Idle, Load, Read}
 use Rattle.tables.specs.Tables.{Three}
 use Rattle.orders.specs.Command.{orderHeard}
-use Rattle.tables.specs.Port.{Desk, desk, Tabled, tabled, withError, withTransfer, closeOf, wrongWay, commandOf, wordTaken, dataInOf, readNext, wordGiven, dataOutOf, errorShown, statusOf}
+use Rattle.tables.specs.Port.{Desk, desk, Tabled, tabled, withTransfer, closeOf, wrongWay, commandOf, wordTaken, dataInOf, readNext, wordGiven, dataOutOf, statusOf}
 use Rattle.tables.specs.Bounds.{soundWords}
 use Rattle.tables.proofs.Kept.{command-sound, data-in-sound, data-out-sound}
 use Rattle.tables.proofs.Closing.{off-command, idle-in, idle-out, wrong-idle}
@@ -92,7 +92,7 @@ unfolding wordOf commandOf closeOf
 command-fares x =
     record {
       sound = λ on w d h. command-sound on x (tabled w d) h;
-      asleep = λ w e. record { said = done; words = wrongWay w; idle = wrong-idle w; is = λ d. ap wordWritten (off-command x (tabled w d)) };
+      asleep = λ w e. record { said = _; words = _; idle = wrong-idle w; is = λ d. ap wordWritten (off-command x (tabled w d)) };
       alike = λ on w t l m h g. same-desk done _ _ l m (none-came _ (obeyed-none (orderHeard on x) w) (g .long));
       load = cutting refl (record { blind = λ on w h k t l m. refl; none = λ on w d. obeyed-none (orderHeard on x) w; load = λ on w d. refl });
       read = ending refl;
@@ -104,7 +104,7 @@ data-in-fares x =
     let more : (w : Words) (d : Desk) (h : Header) (k : ℕ) → k + 1 < h .n → dataInOf x (tabled (withTransfer (Load h k) w) d) ≡ tabled (withTransfer (Load h (k + 1)) w) (desk (d .tables) (set (d .load) k x)) = λ w d h k i. load-more h k x (tabled (withTransfer (Load h k) w) d) i in
     record {
       sound = λ on w d h. data-in-sound x (tabled w d) h;
-      asleep = λ w e. record { said = done; words = wrongWay w; idle = wrong-idle w; is = λ d. ap wordWritten (idle-in x (tabled w d) e) };
+      asleep = λ w e. record { said = _; words = _; idle = wrong-idle w; is = λ d. ap wordWritten (idle-in x (tabled w d) e) };
       alike = λ on w t l m h g. unseen-same _ _ (data-in-unseen x w t l m (g .long) h (g .came));
       load = bringing x refl refl
           (record { pod = λ on w d h k i. ap (λ (y : Tabled). y .words) (more w d h k i); lent = λ on w d h k i. ap (λ (y : Tabled). y .desk) (more w d h k i) });
@@ -116,7 +116,7 @@ unfolding wordOf dataOutOf wordGiven wrongWay readNext
 data-out-fares =
     record {
       sound = λ on w d h. data-out-sound w (d .tables) h;
-      asleep = λ w e. record { said = reads 0; words = wrongWay w; idle = refl; is = λ d. ap (λ (a : Answered). wordRead a d) (idle-out w (d .tables) e) };
+      asleep = λ w e. record { said = _; words = _; idle = refl; is = λ d. ap (λ (a : Answered). wordRead a d) (idle-out w (d .tables) e) };
       alike = λ on w t l m h g. same-desk _ _ _ l m (none-came _ (given-none (w .transfer) w t) (g .long));
       load = cutting refl (record { blind = λ on w h k t l m. refl; none = λ on w d. given-none (w .transfer) w (d .tables); load = λ on w d. refl });
       read = going (λ on w d h k at e i.
@@ -134,7 +134,7 @@ unfolding wordOf statusOf
 status-fares =
     record {
       sound = λ on w d h. both-sound _ (sound-places w h) (sound-transfer w h);
-      asleep = λ w e. record { said = reads (errorShown (w .error)); words = withError false w; idle = e; is = λ d. refl };
+      asleep = λ w e. record { said = _; words = _; idle = e; is = λ d. refl };
       alike = λ on w t l m h g. same-desk _ _ _ l m g;
       load = leaving refl refl (record { pod = λ on u w d e. refl; lent = λ on w d. refl });
       read = going (λ on w d h k at e i. record { transfer = e ∙ ap (λ (j : ℕ). Read h j at) (sym (add-zero k)); places = refl; given = refl; lent = refl });

@@ -15,8 +15,7 @@ use Rattle.tables.specs.declared.Words.{Words}
 use Rattle.tables.specs.declared.Transfer.{Transfer}
 use Rattle.tables.specs.declared.Transfer.the-variants.{Load}
 use Rattle.tables.specs.Tables.{tablesSized}
-use Rattle.tables.specs.Port.{Desk, Tabled, tabled, wordTaken, dataInOf, statusOf}
-use Rattle.tables.proofs.Loading.{load-more}
+use Rattle.tables.specs.Port.{Desk, Tabled}
 use Rattle.rules.specs.State.{deskIn, soundPod, withWords, withDesk}
 use Rattle.rules.specs.Families.{WordCall, wordOf}
 use Rattle.rules.specs.Traits.{traits}

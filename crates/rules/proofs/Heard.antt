@@ -5,7 +5,6 @@ use mathlib.Core.Path.{_≡_, refl}
 use mathlib.Core.Bool.{Bool, or-true, or-false}
 use lib.Dec.{ltb}
 use lib.ListN.{set}
-use Rattle.rows.specs.Rows.{Out}
 use Rattle.rows.proofs.Bool.{split}
 use Rattle.tables.specs.declared.Words.{Words}
 use Rattle.orders.specs.declared.Order.{Order}
@@ -15,22 +14,21 @@ use Rattle.tables.specs.declared.Transfer.the-variants.{Idle, Address, Load, Re
 use Rattle.tables.specs.Tables.{Three, readPlace}
 use Rattle.orders.specs.Command.{orderHeard}
 use Rattle.tables.specs.Port.{Desk, tabled, withTransfer, closeOf, isOpen, beginsAt, fits, readOpenedAt, readOpened, restarted, orderObeyed, tablesAfter, commandOf, wrongWay, loadRight, loadJudged, loadOf, wordTaken, dataInOf, readNext, wordGiven, dataOutOf, statusOf}
-use Rattle.rules.specs.Refusals.{Giving}
-use Rattle.rules.specs.Families.{WordCall, command, dataIn, dataOut, status, wordWritten, wordRead, wordOf}
+use Rattle.rules.specs.Families.{WordCall, command, dataIn, dataOut, status, wordOf}
 use Rattle.rules.specs.Heard.{Heard, wordHeard}
 
--- what is left is what is heard, the tables having been t
-pub record AsHeard (o : Out Giving Words Desk) (t : Three) (h : Heard) : Type 0 where
-  pub words : o .pod ≡ h .words
-  pub load : o .lent .load ≡ h .load
-  pub tables : o .lent .tables ≡ h .tables t
+-- the port and what is lent are what is heard, the tables having been t
+pub record AsHeard (w : Words) (d : Desk) (t : Three) (h : Heard) : Type 0 where
+  pub words : w ≡ h .words
+  pub load : d .load ≡ h .load
+  pub tables : d .tables ≡ h .tables t
 
-leaves : {o : Out Giving Words Desk} {t : Three} {h : Heard} → o .pod ≡ h .words → o .lent .load ≡ h .load → o .lent .tables ≡ h .tables t → AsHeard o t h
+leaves : {w : Words} {d : Desk} {t : Three} {h : Heard} → w ≡ h .words → d .load ≡ h .load → d .tables ≡ h .tables t → AsHeard w d t h
 leaves p l s = record { words = p; load = l; tables = s }
 
 -- a command word, by its order
 ordered : (x : ℕ) (on : Bool) (w : Words) (d : Desk) (o : Order) → orderHeard on x ≡ o
-    → AsHeard (wordOf (command x) on w d) (d .tables) (wordHeard (command x) on w (d .load))
+    → AsHeard (wordOf (command x) on w d .pod) (wordOf (command x) on w d .lent) (d .tables) (wordHeard (command x) on w (d .load))
 unfolding wordOf wordHeard commandOf orderObeyed closeOf restarted readOpened readOpenedAt tablesAfter
 ordered x on w d Other e = rw (e, or-true (isOpen (w .transfer)), or-true (w .error)) (leaves refl refl refl)
 ordered x on w d Stop e = rw (e, or-false (isOpen (w .transfer))) (leaves refl refl refl)
@@ -43,7 +41,7 @@ ordered x on w d (Reading t n) e =
 
 -- a data word written, by the open transfer
 taken : (x : ℕ) (on : Bool) (w : Words) (d : Desk) (u : Transfer)
-    → AsHeard (wordWritten (wordTaken u x (tabled w d))) (d .tables) (wordHeard (dataIn x) on (withTransfer u w) (d .load))
+    → AsHeard (wordTaken u x (tabled w d) .words) (wordTaken u x (tabled w d) .desk) (d .tables) (wordHeard (dataIn x) on (withTransfer u w) (d .load))
 unfolding wordHeard wordTaken wrongWay loadOf loadJudged
 taken x on w d Idle = leaves refl refl refl
 taken x on w d Address = leaves refl refl refl
@@ -54,7 +52,7 @@ taken x on w d (Read h k at) = leaves refl refl refl
 
 -- and a data word read
 given-out : (on : Bool) (w : Words) (d : Desk) (u : Transfer)
-    → AsHeard (wordRead (wordGiven u w (d .tables)) d) (d .tables) (wordHeard dataOut on (withTransfer u w) (d .load))
+    → AsHeard (wordGiven u w (d .tables) .words) d (d .tables) (wordHeard dataOut on (withTransfer u w) (d .load))
 unfolding wordHeard wordGiven wrongWay readNext
 given-out on w d Idle = leaves refl refl refl
 given-out on w d Address = leaves refl refl refl
@@ -62,7 +60,7 @@ given-out on w d (Load h k) = leaves refl refl refl
 given-out on w d (Read h k at) = leaves refl refl refl
 
 -- each table word
-pub as-heard : (c : WordCall) (on : Bool) (w : Words) (d : Desk) → AsHeard (wordOf c on w d) (d .tables) (wordHeard c on w (d .load))
+pub as-heard : (c : WordCall) (on : Bool) (w : Words) (d : Desk) → AsHeard (wordOf c on w d .pod) (wordOf c on w d .lent) (d .tables) (wordHeard c on w (d .load))
 unfolding wordOf wordHeard dataInOf dataOutOf statusOf
 as-heard (command x) on w d = ordered x on w d (orderHeard on x) refl
 as-heard (dataIn x) on w d = taken x on w d (w .transfer)

@@ -8,7 +8,7 @@ use mathlib.Core.Bool.{true, false, not, cond}
 use mathlib.Core.List.{List, [], _∷_, _++_}
 use lib.Dec.{ltb, eqb}
 use lib.ListN.{length}
-use borrow.Author.Tests.{lt-ltb, eq-eqb, ne-eqb, ltb-true, ltb-false}
+use borrow.Author.Tests.{eq-eqb, ne-eqb, ltb-true, ltb-false}
 use Rattle.rows.specs.Rows.{gave}
 use Rattle.rows.proofs.Bool.{split, never, and-left, and-right, not-true}
 use Rattle.tables.specs.declared.Header.{Header}
@@ -18,7 +18,7 @@ use Rattle.tables.specs.declared.Answered.{Answered}
 use Rattle.tables.specs.declared.Given.the-variants.{Nowhere}
 use Rattle.tables.specs.declared.Transfer.the-variants.{Idle, Read}
 use Rattle.tables.specs.Tables.{Three, tablesSized, wordsOf, withReadPlace}
-use Rattle.tables.specs.Port.{Desk, withTransfer, withPlaces, withGiven, dataCount, closeOf, readOpened, readOpenedAt, orderObeyed, tablesAfter, commandOf, readWord, readNext, wordGiven, statusOf}
+use Rattle.tables.specs.Port.{Desk, withTransfer, withPlaces, withGiven, dataCount, closeOf, readOpened, readOpenedAt, orderObeyed, tablesAfter, commandOf, readWord, readNext, wordGiven}
 use Rattle.tables.proofs.Obeying.{given-by}
 use Rattle.tables.proofs.Reading.{read-first, read-second, read-third, read-data}
 use Rattle.rules.specs.State.{soundPod, deskIn, withWords}

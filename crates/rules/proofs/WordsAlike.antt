@@ -1,8 +1,7 @@
--- The table words beside two loads of which the same words have come: each says the same, and leaves the same tables and two such loads.
+-- Two loads of which the same words have come, and what leaves them so.
 -- Assumes nothing.
 use Prim.Native.Nat.{ℕ, _+_, _-_}
 use mathlib.Core.Path.{_≡_, refl}
-use mathlib.Core.Bool.{Bool, true}
 use mathlib.Core.List.{List}
 use lib.Dec.{ltb}
 use lib.ListN.{length, take}
@@ -14,12 +13,9 @@ use Rattle.orders.specs.declared.Order.the-variants.{Other, Stop, Restart, Next
 use Rattle.tables.specs.declared.Transfer.{Transfer}
 use Rattle.tables.specs.declared.Transfer.the-variants.{Idle, Address, Load, Read}
 use Rattle.tables.specs.Tables.{Three}
-use Rattle.orders.specs.Command.{orderHeard}
-use Rattle.tables.specs.Port.{Desk, desk, Tabled, fits, closeOf, wrongWay, readOpenedAt, readOpened, restarted, orderObeyed, commandOf, readNext, wordGiven, dataOutOf, statusOf}
-use Rattle.tables.specs.Bounds.{soundWords}
-use Rattle.tables.proofs.Stale.{gathered as cameOf, Unseen, data-in-unseen}
+use Rattle.tables.specs.Port.{Desk, desk, Tabled, fits, closeOf, wrongWay, readOpenedAt, readOpened, restarted, orderObeyed, readNext, wordGiven}
+use Rattle.tables.proofs.Stale.{gathered as cameOf, Unseen}
 use Rattle.rules.specs.Refusals.{Giving, done}
-use Rattle.rules.specs.Families.{WordCall, command, dataIn, dataOut, status, wordOf}
 
 -- the same k words have come; those behind them may differ
 pub record Gathered (k : ℕ) (d e : List ℕ) : Type 0 where
@@ -30,7 +26,7 @@ pub record Gathered (k : ℕ) (d e : List ℕ) : Type 0 where
 pub none-came : {d e : List ℕ} (k : ℕ) → k ≡ 0 → length d ≡ length e → Gathered k d e
 none-came k z h = rw z (record { long = h; came = refl })
 
--- ---- the four words
+-- ---- what a table word leaves
 
 -- the same is said, with the same port and tables, and the same words of an open load have come
 pub data SameDesk : Out Giving Words Desk → Out Giving Words Desk → Type 0 where
