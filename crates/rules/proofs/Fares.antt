@@ -1,5 +1,5 @@
--- How each table word fares: with the bounds, asleep, beside two loads, and with an open load or read. What holds of every table word is
--- here, of all that it does to the port and to what it is lent; the theorems go by no word of their own.
+-- How each table word fares: within the bounds, asleep, beside two loads, with an open load and with an open read. The theorems go by
+-- these laws and have no clause for a word.
 -- Assumes nothing.
 use Prim.Native.Nat.{ℕ, _+_, _<_}
 use native.Mathlib.Nat.{add-zero}
@@ -82,6 +82,7 @@ pub data WithRead (c : WordCall) : Type 0 where
 pub record Fares (c : WordCall) : Type 0 where
   pub sound : (on : Bool) (w : Words) (d : Desk) → soundWords w ≡ true → soundWords (wordOf c on w d .pod) ≡ true
   pub asleep : (w : Words) → w .transfer ≡ Idle → Dormant c w
+  -- of two loads of which the same words have come
   pub alike : (on : Bool) (w : Words) (t : Three) (l m : List ℕ) → soundWords w ≡ true → Gathered (cameOf (w .transfer)) l m
       → SameDesk (wordOf c on w (desk t l)) (wordOf c on w (desk t m))
   pub load : WithLoad c
@@ -98,35 +99,45 @@ command-fares x =
       read = ending refl;
     }
 
+-- a word of a load, not its last
+next-word : (x : ℕ) (w : Words) (d : Desk) (h : Header) (k : ℕ) → k + 1 < h .n
+    → dataInOf x (tabled (withTransfer (Load h k) w) d) ≡ tabled (withTransfer (Load h (k + 1)) w) (desk (d .tables) (set (d .load) k x))
+unfolding dataInOf wordTaken
+next-word x w d h k i = load-more h k x (tabled (withTransfer (Load h k) w) d) i
+
 data-in-fares : (x : ℕ) → Fares (dataIn x)
-unfolding wordOf dataInOf wordTaken
+unfolding wordOf
 data-in-fares x =
-    let more : (w : Words) (d : Desk) (h : Header) (k : ℕ) → k + 1 < h .n → dataInOf x (tabled (withTransfer (Load h k) w) d) ≡ tabled (withTransfer (Load h (k + 1)) w) (desk (d .tables) (set (d .load) k x)) = λ w d h k i. load-more h k x (tabled (withTransfer (Load h k) w) d) i in
     record {
       sound = λ on w d h. data-in-sound x (tabled w d) h;
       asleep = λ w e. record { said = _; words = _; idle = wrong-idle w; is = λ d. ap wordWritten (idle-in x (tabled w d) e) };
       alike = λ on w t l m h g. unseen-same _ _ (data-in-unseen x w t l m (g .long) h (g .came));
       load = bringing x refl refl
-          (record { pod = λ on w d h k i. ap (λ (y : Tabled). y .words) (more w d h k i); lent = λ on w d h k i. ap (λ (y : Tabled). y .desk) (more w d h k i) });
+          (record { pod = λ on w d h k i. ap (λ (y : Tabled). y .words) (next-word x w d h k i); lent = λ on w d h k i. ap (λ (y : Tabled). y .desk) (next-word x w d h k i) });
       read = ending refl;
     }
 
+-- a word of a read, not its last
+word-on : (on : Bool) (w : Words) (d : Desk) (h : Header) (k at : ℕ) → w .transfer ≡ Read h k at → k + 1 < h .n → Goes dataOut h k at w (wordOf dataOut on w d) d
+unfolding wordOf wordGiven readNext
+word-on on w d h k at e i =
+    let so = ap (λ (a : Answered). a .words) (given-by (Read h k at) w (d .tables) e) in
+    record {
+      transfer = ap (λ (v : Words). v .transfer) so ∙ rw (lt-ltb (k + 1) (h .n) i);
+      places = ap (λ (v : Words). v .places) so;
+      given = ap (λ (v : Words). v .given) so;
+      lent = refl;
+    }
+
 data-out-fares : Fares dataOut
-unfolding wordOf dataOutOf wordGiven wrongWay readNext
+unfolding wordOf dataOutOf wordGiven wrongWay
 data-out-fares =
     record {
       sound = λ on w d h. data-out-sound w (d .tables) h;
       asleep = λ w e. record { said = _; words = _; idle = refl; is = λ d. ap (λ (a : Answered). wordRead a d) (idle-out w (d .tables) e) };
       alike = λ on w t l m h g. same-desk _ _ _ l m (none-came _ (given-none (w .transfer) w t) (g .long));
       load = cutting refl (record { blind = λ on w h k t l m. refl; none = λ on w d. given-none (w .transfer) w (d .tables); load = λ on w d. refl });
-      read = going (λ on w d h k at e i.
-          let so = ap (λ (a : Answered). a .words) (given-by (Read h k at) w (d .tables) e) in
-          record {
-            transfer = ap (λ (v : Words). v .transfer) so ∙ rw (lt-ltb (k + 1) (h .n) i);
-            places = ap (λ (v : Words). v .places) so;
-            given = ap (λ (v : Words). v .given) so;
-            lent = refl;
-          });
+      read = going word-on;
     }
 
 status-fares : Fares status
