@@ -1,12 +1,14 @@
 -- Demand 2: which calls touch the table port, where each table's next read begins, and which address is given.
 -- Assumes nothing.
 use mathlib.Core.Path.{_≡_, refl, ap}
+use mathlib.Core.Bool.{true}
 use Rattle.rows.specs.Rows.{Clear}
 use Rattle.rows.proofs.Laws.{never-both}
 use Rattle.tables.specs.declared.Words.{Words}
 use Rattle.rules.specs.State.{freshPod, deskIn}
 use Rattle.rules.specs.Obey.{initialisedPod, doneBy}
-use Rattle.rules.specs.World.{World, word, Stepped, rowsOf}
+use Rattle.rules.specs.Families.{WordCall}
+use Rattle.rules.specs.World.{World, word, Stepped, isAnswered, rowsOf, next}
 use Rattle.rules.specs.History.{Event}
 use Rattle.rules.specs.Port.{portBy, heardIn}
 use Rattle.rules.specs.Demands.{PortOnly, PlacesOnly}
@@ -37,12 +39,15 @@ port-only w c = event-port w _ _ (eventful (happens w c))
 
 -- ---- a table word
 
-pub places-only : PlacesOnly
-places-only w c a = on (happens w (word c)) (answered-clear w (word c) a)
+-- answered, it leaves of the port what is heard of it
+pub word-leaves : (w : World) (c : WordCall) → isAnswered w (word c) ≡ true → next w (word c) .pod .words ≡ heardIn w c .words
+word-leaves w c a = on (happens w (word c)) (answered-clear w (word c) a)
   where
-    on : {s : Stepped} → Happens w (word c) s → Clear (rowsOf w (word c))
-        → (s .world .pod .words .places ≡ heardIn w c .words .places) × (s .world .pod .words .given ≡ heardIn w c .words .given)
+    on : {s : Stepped} → Happens w (word c) s → Clear (rowsOf w (word c)) → s .world .pod .words ≡ heardIn w c .words
     on (by-rows d n f) k = never-both f k
-    on (by-word d k) q =
-        let so = as-heard d (w .pod .initialised) (w .pod .words) (deskIn (w .lent)) .words in
-        (ap (λ (x : Words). x .places) so, ap (λ (x : Words). x .given) so)
+    on (by-word d k) q = as-heard d (w .pod .initialised) (w .pod .words) (deskIn (w .lent)) .words
+
+pub places-only : PlacesOnly
+places-only w c a =
+    let so = word-leaves w c a in
+    (ap (λ (x : Words). x .places) so, ap (λ (x : Words). x .given) so)

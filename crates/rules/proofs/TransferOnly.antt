@@ -3,31 +3,23 @@
 use mathlib.Core.Path.{_≡_, refl, ap}
 use mathlib.Core.Bool.{false}
 use mathlib.Core.List.{[]}
-use Rattle.rows.specs.Rows.{Clear, gave}
+use Rattle.rows.specs.Rows.{gave}
 use Rattle.rows.proofs.Bool.{never, not-true}
-use Rattle.rows.proofs.Laws.{never-both}
 use Rattle.tables.specs.declared.Words.{Words}
 use Rattle.tables.specs.declared.Transfer.{Transfer}
 use Rattle.tables.specs.declared.Transfer.the-variants.{Idle, Address, Load, Read}
 use Rattle.tables.specs.Tables.{Three}
 use Rattle.tables.specs.Port.{wordGiven, dataOutOf}
-use Rattle.rules.specs.State.{deskIn}
 use Rattle.rules.specs.Refusals.{reads}
 use Rattle.rules.specs.Families.{dataOut, wordOf}
-use Rattle.rules.specs.World.{World, word, Stepped, told, isRefused, rowsOf}
-use Rattle.rules.specs.Port.{heardIn, isRead}
+use Rattle.rules.specs.World.{World, word, Stepped, told, isRefused}
+use Rattle.rules.specs.Port.{isRead}
 use Rattle.rules.specs.Demands.{TransferOnly, ReadsZero}
 use Rattle.rules.proofs.Happens.{Happens, by-rows, by-word, happens}
-use Rattle.rules.proofs.Answered.{answered-clear}
-use Rattle.rules.proofs.Heard.{as-heard}
+use Rattle.rules.proofs.PortOnly.{word-leaves}
 
 pub transfer-only : TransferOnly
-transfer-only w c a = on (happens w (word c)) (answered-clear w (word c) a)
-  where
-    on : {s : Stepped} → Happens w (word c) s → Clear (rowsOf w (word c))
-        → s .world .pod .words .transfer ≡ heardIn w c .words .transfer
-    on (by-rows d n f) k = never-both f k
-    on (by-word d k) q = ap (λ (x : Words). x .transfer) (as-heard d (w .pod .initialised) (w .pod .words) (deskIn (w .lent)) .words)
+transfer-only w c a = ap (λ (x : Words). x .transfer) (word-leaves w c a)
 
 -- ---- with no read open
 

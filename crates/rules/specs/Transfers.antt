@@ -139,8 +139,7 @@ pub record Reads (w : World) (x : ℕ) (h : Header) (at : ℕ) (cs : List Call) 
 
 -- ---- message error
 
--- after any call, e before it being the port's own, by the open transfer and the words of a load so far; on says whether the pod was
--- initialised
+-- after any call, e before it, by the open transfer and the words of a load so far; on says whether the pod was initialised
 unfoldable pub errorBy : Event → Bool → Words → List ℕ → Bool → Bool
 errorBy nothing on w l e = e
 errorBy (begins a f) on w l e = false
@@ -151,7 +150,7 @@ errorBy (opensExchange x) on w l e = e
 errorBy closesExchange on w l e = e
 errorBy (hearsAcknowledgement first one) on w l e = e
 errorBy (puts s b) on w l e = e
-errorBy (words c) on w l e = wordHeard c on w l .words .error
+errorBy (words c) on w l e = wordHeard c on (withError e w) l .words .error
 errorBy (pipes c b) on w l e = e
 
 -- ---- the tables
