@@ -4,13 +4,14 @@
 use Prim.Native.Nat.{ℕ}
 use mathlib.Core.Path.{_≡_, refl, sym, ap, _∙_}
 use mathlib.Core.Bool.{true, false}
-use mathlib.Core.List.{[]}
-use Rattle.rows.specs.Rows.{First, Clear, refused, gave, rising}
-use Rattle.rows.proofs.Bool.{never, not-true}
+use mathlib.Core.List.{List, [], _∷_, _++_}
+use Rattle.rows.specs.Rows.{Row, First, Clear, refused, gave, rising}
+use Rattle.rows.proofs.Bool.{by-test, never, not-true}
 use Rattle.rows.proofs.Laws.{never-both, first-one, refused-same, gave-not}
 use Rattle.rows.proofs.Lowest.{lowest}
-use Rattle.rules.specs.Refusals.{Giving, done}
-use Rattle.rules.specs.Families.{command, dataIn, dataOut, status, wordLent, wordOf}
+use Rattle.rules.specs.State.{deskIn}
+use Rattle.rules.specs.Refusals.{Giving, done, stateRow}
+use Rattle.rules.specs.Traits.{traits}
 use Rattle.rules.specs.Calls.{reachOf}
 use Rattle.rules.specs.World.{World, Call, power, packet, put, word, lone, samples, roomOf, Told, Stepped, stepped, isAnswered, isRefused, step, rowsOf}
 use Rattle.rules.specs.Demands.{AlwaysAnswered, LowestFirst, RefusedUnchanged}
@@ -19,6 +20,7 @@ use Rattle.rules.specs.Numbered.{isPipe}
 use Rattle.rules.specs.Said.{givesNumber, givesBytes, SaysDone}
 use Rattle.rules.proofs.Lone.{lone-rows, rise-if, lone-is, unsent}
 use Rattle.rules.proofs.Happens.{Happens, by-rows, by-power, by-empty, by-damage, by-acknowledgement, by-check, by-command, by-put, by-word, by-lone, by-samples, happens}
+use Rattle.rules.proofs.WordRows.{rowed}
 
 -- how a call ends: refused by its first row that holds, or answered
 pub data Ends (w : World) (c : Call) (s : Stepped) : Type 0 where
@@ -70,14 +72,12 @@ refused-unchanged w c n s = on (ends (happens w c))
     on (answered g k e) = absurd (gave-not (sym e ∙ s))
 
 rows-rise : (w : World) (c : Call) → rising 0 (rowsOf w c) ≡ true
-unfolding rising rowsOf wordLent
+unfolding rising rowsOf
 rows-rise w power = refl
 rows-rise w (packet b room) = refl
 rows-rise w (put s b) = refl
-rows-rise w (word (command x)) = refl
-rows-rise w (word (dataIn x)) = refl
-rows-rise w (word dataOut) = refl
-rows-rise w (word status) = refl
+rows-rise w (word c) =
+    rw (rowed c .rows (w .lent .tables)) (by-test (λ (rs : List Row). rising 0 (rs ++ (stateRow (w .pod) ∷ [])) ≡ true) (traits c .lent) (λ e. refl) (λ e. refl))
 rows-rise w (lone c) = rw (lone-rows c (w .pod)) (rise-if (isPipe c) (w .pod))
 rows-rise w (samples k xs) = refl
 
@@ -94,7 +94,7 @@ Gives : Call → Told → Type 0
 Gives c t = (givesNumber c ≡ false → t .said ≡ gave done) × (givesBytes c ≡ false → t .bytes ≡ [])
 
 gives : {w : World} {c : Call} {s : Stepped} → Happens w c s → isRefused (s .told .said) ≡ false → Gives c (s .told)
-unfolding Gives wordOf
+unfolding Gives
 gives (by-rows c n f) a = never refl a
 gives (by-power k) a = (λ e. refl, λ e. refl)
 gives (by-empty b room k e) a = (λ z. never refl z, λ z. never refl z)
@@ -103,10 +103,7 @@ gives (by-acknowledgement b room first one k e) a = (λ z. never refl z, λ z. n
 gives (by-check b room c n k e f) a = (λ z. never refl z, λ z. never refl z)
 gives (by-command b room c k e q) a = (λ z. never refl z, λ z. never refl z)
 gives (by-put s b k) a = (λ e. refl, λ e. refl)
-gives (by-word (command x) k) a = (λ e. refl, λ e. refl)
-gives (by-word (dataIn x) k) a = (λ e. refl, λ e. refl)
-gives (by-word dataOut k) a = (λ z. never refl z, λ e. refl)
-gives (by-word status k) a = (λ z. never refl z, λ e. refl)
+gives {w} (by-word c k) a = (λ e. ap gave (rowed c .said (w .pod .initialised) (w .pod .words) (deskIn (w .lent)) e), λ e. refl)
 gives {w} (by-lone c k) a = (λ e. refl, λ e. rw (lone-is c (reachOf (w .pod))) (unsent (loneAs c .moves) (w .pod .pipe) e))
 gives (by-samples n xs k) a = (λ e. refl, λ z. never refl z)
 

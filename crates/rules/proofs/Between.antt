@@ -5,7 +5,8 @@ use Prim.Native.Nat.{ℕ}
 use mathlib.Core.Path.{_≡_, refl, ap}
 use mathlib.Core.Bool.{Bool, true, false, not}
 use mathlib.Core.List.{List, [], _∷_, _++_}
-use Rattle.rows.specs.Rows.{Clear, none, past}
+use Rattle.rows.specs.Rows.{Row, Clear, none, past}
+use Rattle.rows.proofs.Bool.{by-test}
 use Rattle.rows.proofs.Laws.{ran-clear}
 use Rattle.blocks.specs.declared.Store.{Store}
 use Rattle.packets.specs.declared.Command.{Command}
@@ -15,12 +16,15 @@ use Rattle.tables.specs.declared.Transfer.the-variants.{Idle}
 use Rattle.tables.specs.Port.{startWords, closeOf}
 use Rattle.rules.specs.State.{deskIn, freshPod}
 use Rattle.rules.specs.Obey.{initialisedPod, doneBy}
-use Rattle.rules.specs.Families.{WordCall, command, dataIn, dataOut, status, wordLent, LoneCall}
+use Rattle.rules.specs.Refusals.{stateRow}
+use Rattle.rules.specs.Families.{WordCall, LoneCall}
+use Rattle.rules.specs.Traits.{traits}
 use Rattle.rules.specs.Calls.{answered, wordCall}
 use Rattle.rules.specs.World.{World, Call, power, packet, put, word, lone, samples, Stepped, step, rowsOf, next, final}
 use Rattle.rules.specs.History.{Event, words, obeyedAs, eventOf}
 use Rattle.rules.specs.Transfers.{Fit, cuts}
 use Rattle.rules.proofs.Happens.{Happens, by-rows, by-power, by-empty, by-damage, by-acknowledgement, by-check, by-command, by-put, by-lone, by-samples, obeying, wording}
+use Rattle.rules.proofs.WordRows.{rowed}
 use Rattle.rules.proofs.Succeeded.{error-fails, room-at}
 use Rattle.rules.proofs.Eventful.{command-succeeds}
 use Rattle.rules.proofs.Untouched.{acknowledged-untouched}
@@ -34,11 +38,10 @@ final-then w (c ∷ bs) cs = final-then (next w c) bs cs
 -- ---- a table word
 
 fit-clear : {w : World} → Fit w → (x : WordCall) → Clear (rowsOf w (word x))
-unfolding rowsOf wordLent
-fit-clear h (command x) = past (ap not (h .tables)) (past (ap not (h .sound)) none)
-fit-clear h (dataIn x) = past (ap not (h .tables)) (past (ap not (h .sound)) none)
-fit-clear h dataOut = past (ap not (h .tables)) (past (ap not (h .sound)) none)
-fit-clear h status = past (ap not (h .sound)) none
+unfolding rowsOf
+fit-clear {w} h x =
+    let last = past (ap not (h .sound)) none in
+    rw (rowed x .rows (w .lent .tables)) (by-test (λ (rs : List Row). Clear (rs ++ (stateRow (w .pod) ∷ []))) (traits x .lent) (λ e. past (ap not (h .tables)) last) (λ e. last))
 
 -- in a world that is fit for it it takes place
 pub word-fit : (w : World) → Fit w → (x : WordCall) → step w (word x) ≡ wording x w

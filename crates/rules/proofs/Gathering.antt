@@ -15,14 +15,15 @@ use Rattle.tables.specs.declared.Words.{Words}
 use Rattle.tables.specs.declared.Transfer.{Transfer}
 use Rattle.tables.specs.declared.Transfer.the-variants.{Load}
 use Rattle.tables.specs.Tables.{tablesSized}
-use Rattle.tables.specs.Port.{Desk, Tabled, tabled, wordTaken, dataInOf, statusOf}
-use Rattle.tables.proofs.Loading.{load-more}
+use Rattle.tables.specs.Port.{Desk, Tabled}
 use Rattle.rules.specs.State.{deskIn, soundPod, withWords, withDesk}
-use Rattle.rules.specs.Families.{WordCall, command, dataIn, dataOut, status, wordOf}
+use Rattle.rules.specs.Families.{WordCall, wordOf}
+use Rattle.rules.specs.Traits.{traits}
 use Rattle.rules.specs.World.{World, world, Call, word, Stepped, step, next, final}
 use Rattle.rules.specs.History.{Event, eventOf, events}
 use Rattle.rules.specs.Transfers.{Fit, cuts, cutsLoad, leftOpen, callWritten, writtenIn, othersIn}
 use Rattle.rules.proofs.Happens.{happens}
+use Rattle.rules.proofs.Fares.{Brings, Leaves, WithLoad, cutting, bringing, leaving, fares}
 use Rattle.rules.proofs.Sound.{sound-next}
 use Rattle.rules.proofs.Between.{word-fit, word-event, Other, powers, sends, puts, touches, shows, Which, says, other, which, Ported, apart, ends, ported}
 use Rattle.rules.proofs.Holding.{hold, beside, sound-held, other-held}
@@ -65,19 +66,30 @@ module _ (h : Header) where
         transfer = t ∙ o .transfer;
       }
 
-  -- one word more
-  gathers : (x k : ℕ) (l : List ℕ) (z : World) → Fit (along k l z) → k + 1 < h .n → next (along k l z) (word (dataIn x)) ≡ along (suc k) (set l k x) z
-  unfolding wordOf dataInOf wordTaken
-  gathers x k l z f i =
+  -- a table word that brings one word more
+  gathers : (c : WordCall) (x k : ℕ) (l : List ℕ) (z : World) → Brings c x → Fit (along k l z) → k + 1 < h .n
+      → next (along k l z) (word c) ≡ along (suc k) (set l k x) z
+  gathers c x k l z b f i =
       let v = along k l z in
-      ap (λ (y : Stepped). y .world) (word-fit v f (dataIn x))
-      ∙ ap (λ (y : Tabled). laid y v) (load-more h k x (tabled (v .pod .words) (deskIn (v .lent))) i)
+      let on = z .pod .initialised in
+      let w = z .pod .words in
+      let d = deskIn (v .lent) in
+      ap (λ (y : Stepped). y .world) (word-fit v f c)
+      ∙ (λ j. world (withWords (b .pod on w d h k i j) (z .pod)) (withDesk (b .lent on w d h k i j) (z .lent)))
       ∙ ap (λ (j : ℕ). along j (set l k x) z) (add-one k)
 
-  status-along : (k : ℕ) (l : List ℕ) (z : World) → Fit (along k l z) → Fit z → next (along k l z) (word status) ≡ along k l (next z (word status))
-  unfolding wordOf statusOf
-  status-along k l z f g =
-      ap (λ (y : Stepped). y .world) (word-fit (along k l z) f status) ∙ ap (λ (y : Stepped). along k l (y .world)) (sym (word-fit z g status))
+  -- and one that leaves the load
+  passed-by : (c : WordCall) (k : ℕ) (l : List ℕ) (z : World) → Leaves c → Fit (along k l z) → Fit z → next (along k l z) (word c) ≡ along k l (next z (word c))
+  passed-by c k l z p f g =
+      let v = along k l z in
+      let on = z .pod .initialised in
+      let w = z .pod .words in
+      let d = deskIn (z .lent) in
+      let e = deskIn (v .lent) in
+      ap (λ (y : Stepped). y .world) (word-fit v f c)
+      ∙ (λ j. world (withWords (p .pod on (Load h k) w e d j) (z .pod)) (withDesk (p .lent on (v .pod .words) e j) (z .lent)))
+      ∙ ap (λ (x : Desk). along k l (world (withWords (wordOf c on w d .pod) (z .pod)) (withDesk x (z .lent)))) (sym (p .lent on w d))
+      ∙ ap (λ (y : Stepped). along k l (y .world)) (sym (word-fit z g c))
 
   -- through some calls: the words that came, over what the other calls alone make of the world
   pub record Passed (cs : List Call) (k : ℕ) (l : List ℕ) (z : World) : Type 0 where
@@ -109,27 +121,40 @@ module _ (h : Header) where
     other-passes q (ends e v f t m) i more n = never (f cutsLoad) i
 
     -- a table word
-    word-passes : (x : WordCall) → cutsLoad x ≡ false → leftOpen cutsLoad (events (next (along k l z) (word x)) cs) ≡ true
-        → k + length (writtenIn (word x ∷ cs)) < h .n → Passed (word x ∷ cs) k l z
-    unfolding final writtenIn othersIn wordOf statusOf
-    word-passes (command x) e more n = never refl e
-    word-passes (dataIn x) e more n =
-        let count : k + suc (length (writtenIn cs)) < h .n = n in
-        let one = gathers x k l z (fit-along k l z o long (omega arith)) (omega arith) in
+    brought : (c : WordCall) (x : ℕ) → Brings c x → traits c .written ≡ x ∷ [] → leftOpen cutsLoad (events (next (along k l z) (word c)) cs) ≡ true
+        → k + length (writtenIn (word c ∷ cs)) < h .n → Passed (word c ∷ cs) k l z
+    unfolding final writtenIn othersIn
+    brought c x b d more n =
+        let count : k + suc (length (writtenIn cs)) < h .n = rw d at n in
+        let one = gathers c x k l z b (fit-along k l z o long (omega arith)) (omega arith) in
         let y = rest (suc k) (set l k x) z o (length-set l k x ∙ long) (subst (λ (v : World). leftOpen cutsLoad (events v cs) ≡ true) one more) (omega arith) in
         record {
-          is = ap (λ (v : World). final v cs) one ∙ y .is
-              ∙ ap (λ (i : ℕ). along i (sets l k (x ∷ writtenIn cs)) (final z (othersIn cs))) (suc-add k (length (writtenIn cs)) ∙ sym (add-suc k (length (writtenIn cs))));
-          stays = y .stays;
-          desk = y .desk;
+          is = rw d (ap (λ (v : World). final v cs) one ∙ y .is
+              ∙ ap (λ (i : ℕ). along i (sets l k (x ∷ writtenIn cs)) (final z (othersIn cs))) (suc-add k (length (writtenIn cs)) ∙ sym (add-suc k (length (writtenIn cs)))));
+          stays = rw d (y .stays);
+          desk = rw d (y .desk);
         }
-    word-passes dataOut e more n = never refl e
-    word-passes status e more n =
-        let so = word-fit z (o .fit) status in
-        let desk = ap (λ (y : Stepped). deskIn (y .world .lent)) so in
-        alike (word status) refl (status-along k l z (fit-along k l z o long (omega arith)) (o .fit))
-        (open-next z (next z (word status)) o (sound-next z (word status) (o .fit .sound)) (ap (λ (y : Stepped). y .world .pod .words .transfer) so) desk)
-        desk more n
+
+    left : (c : WordCall) → Leaves c → traits c .written ≡ [] → leftOpen cutsLoad (events (next (along k l z) (word c)) cs) ≡ true
+        → k + length (writtenIn (word c ∷ cs)) < h .n → Passed (word c ∷ cs) k l z
+    left c p d more n =
+        let on = z .pod .initialised in
+        let at = deskIn (z .lent) in
+        let so = word-fit z (o .fit) c in
+        let kept = ap (λ (y : Stepped). deskIn (y .world .lent)) so ∙ p .lent on (z .pod .words) at in
+        alike (word c) d (passed-by c k l z p (fit-along k l z o long (omega arith)) (o .fit))
+        (open-next z (next z (word c)) o (sound-next z (word c) (o .fit .sound))
+        (ap (λ (y : Stepped). y .world .pod .words .transfer) so ∙ ap (λ (v : Words). v .transfer) (p .pod on (z .pod .words .transfer) (z .pod .words) at at)) kept)
+        kept more n
+
+    word-passes : (c : WordCall) → cutsLoad c ≡ false → leftOpen cutsLoad (events (next (along k l z) (word c)) cs) ≡ true
+        → k + length (writtenIn (word c ∷ cs)) < h .n → Passed (word c ∷ cs) k l z
+    word-passes c e more n = on (fares c .load)
+      where
+        on : WithLoad c → Passed (word c ∷ cs) k l z
+        on (cutting i q) = never i e
+        on (bringing x i d q) = brought c x q d more n
+        on (leaving i d q) = left c q d more n
 
     step-passes : {c : Call} → Which c → cuts cutsLoad (eventOf c (step (along k l z) c .told)) ≡ false
         → leftOpen cutsLoad (events (next (along k l z) c) cs) ≡ true → k + length (writtenIn (c ∷ cs)) < h .n → Passed (c ∷ cs) k l z

@@ -7,6 +7,7 @@ pub mod Histories
 pub mod Untouched
 pub mod Flow
 pub mod Frames
+pub mod Heard
 pub mod NoOther
 pub mod MessageError
 pub mod Inside
@@ -17,13 +18,15 @@ pub mod Written
 pub mod Blocks
 pub mod Replied
 pub mod Asked
+pub mod WordsAlike
+pub mod Fares
 pub mod Sound
+pub mod WordRows
 pub mod Answered
 pub mod Numbered
 pub mod Checked
 pub mod Judged
 pub mod Kept
-pub mod WordsAlike
 pub mod Twins
 pub mod Said
 pub mod Between

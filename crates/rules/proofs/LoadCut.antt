@@ -8,20 +8,25 @@ use mathlib.Core.Bool.{true}
 use mathlib.Core.List.{List, _∷_}
 use lib.ListN.{length}
 use lib.Seq.{sets, length-sets}
+use Rattle.rows.specs.Rows.{Out, given}
 use Rattle.rows.proofs.Bool.{never}
 use Rattle.tables.specs.declared.Header.{Header}
+use Rattle.tables.specs.declared.Words.{Words}
 use Rattle.tables.specs.declared.Transfer.{Transfer}
 use Rattle.tables.specs.declared.Transfer.the-variants.{Load}
-use Rattle.orders.specs.Command.{orderHeard}
-use Rattle.tables.specs.Port.{Desk, closeOf, wrongWay, commandOf, wordGiven, dataOutOf}
-use Rattle.rules.specs.Families.{WordCall, command, dataIn, dataOut, status, wordOf}
-use Rattle.rules.specs.World.{World, Call, word, Stepped, step, next, final, run}
+use Rattle.tables.specs.Port.{Desk}
+use Rattle.rules.specs.State.{deskIn}
+use Rattle.rules.specs.Refusals.{Giving}
+use Rattle.rules.specs.Families.{WordCall}
+use Rattle.rules.specs.Calls.{worded}
+use Rattle.rules.specs.World.{World, Call, word, Stepped, overDesk, step, next, final, run}
 use Rattle.rules.specs.History.{Event, eventOf, events}
 use Rattle.rules.specs.Transfers.{cuts, cutsLoad, leftOpen, writtenIn, othersIn}
 use Rattle.rules.specs.Demands.{LoadCut}
 use Rattle.rules.proofs.Happens.{happens, wording}
 use Rattle.tables.proofs.Stale.{gathered as cameOf}
-use Rattle.rules.proofs.WordsAlike.{none-came, obeyed-none, given-none}
+use Rattle.rules.proofs.WordsAlike.{none-came}
+use Rattle.rules.proofs.Fares.{Cuts, WithLoad, cutting, bringing, leaving, fares}
 use Rattle.rules.proofs.Twins.{twin, Same, same-run}
 use Rattle.rules.proofs.Between.{word-fit, word-event, Which, says, other, which, Ported, apart, ends, ported}
 use Rattle.rules.proofs.Holding.{hold, beside, held, other-held}
@@ -51,33 +56,26 @@ module _ (h : Header) (k : ℕ) (l : List ℕ) (z : World) (o : Open h z) (long 
   as-open = ap (λ (u : Transfer). hold u (z .lent .load) z) (o .transfer)
 
   -- a table word that closes it
-  word-stale : (x : WordCall) → cutsLoad x ≡ true → wording x (along h k l z) ≡ stale l (wording x (along h 0 (z .lent .load) z))
-  unfolding wordOf commandOf closeOf dataOutOf wordGiven wrongWay
-  word-stale (command x) e = refl
-  word-stale (dataIn x) e = never e refl
-  word-stale dataOut e = refl
-  word-stale status e = never e refl
+  word-closes : (c : WordCall) → Cuts c → Same (step (along h k l z) (word c)) (step z (word c))
+  word-closes c q =
+      let v = along h k l z in
+      let on = z .pod .initialised in
+      let w = z .pod .words in
+      let so = word-fit z (o .fit) c in
+      closed-same (word c)
+      (word-fit v (fit-along h k l z o long more) c
+      ∙ ap (λ (y : Out Giving Words Desk). overDesk (given (worded y (z .pod))) z) (q .blind on w h k (z .lent .tables) l (z .lent .load))
+      ∙ ap (λ (y : World). stale l (wording c y)) (sym as-open) ∙ ap (stale l) (sym so))
+      (ap (λ (s : Stepped). cameOf (s .world .pod .words .transfer)) so ∙ q .none on w (deskIn (z .lent)))
+      (ap (λ (s : Stepped). s .world .lent .load) so ∙ q .load on w (deskIn (z .lent)))
 
-  word-none : (x : WordCall) → cutsLoad x ≡ true → cameOf (wording x z .world .pod .words .transfer) ≡ 0
-  unfolding wordOf commandOf dataOutOf
-  word-none (command x) e = obeyed-none (orderHeard (z .pod .initialised) x) (z .pod .words)
-  word-none (dataIn x) e = never e refl
-  word-none dataOut e = given-none (z .pod .words .transfer) (z .pod .words) (z .lent .tables)
-  word-none status e = never e refl
-
-  word-load : (x : WordCall) → cutsLoad x ≡ true → wording x z .world .lent .load ≡ z .lent .load
-  unfolding wordOf commandOf
-  word-load (command x) e = refl
-  word-load (dataIn x) e = never e refl
-  word-load dataOut e = refl
-  word-load status e = never e refl
-
-  word-cut : (x : WordCall) → cutsLoad x ≡ true → Same (step (along h k l z) (word x)) (step z (word x))
-  word-cut x e =
-      let so = word-fit z (o .fit) x in
-      closed-same (word x)
-      (word-fit (along h k l z) (fit-along h k l z o long more) x ∙ word-stale x e ∙ ap (λ (v : World). stale l (wording x v)) (sym as-open) ∙ ap (stale l) (sym so))
-      (ap (λ (s : Stepped). cameOf (s .world .pod .words .transfer)) so ∙ word-none x e) (ap (λ (s : Stepped). s .world .lent .load) so ∙ word-load x e)
+  word-cut : (c : WordCall) → cutsLoad c ≡ true → Same (step (along h k l z) (word c)) (step z (word c))
+  word-cut c e = on (fares c .load)
+    where
+      on : WithLoad c → Same (step (along h k l z) (word c)) (step z (word c))
+      on (cutting i q) = word-closes c q
+      on (bringing x i d q) = never e i
+      on (leaving i d q) = never e i
 
   -- and any other call that does
   other-cut : (c : Call) → step (along h k l z) c ≡ held (Load h k) l (step z c) → {e : Event} → Ported z e (next z c) → cuts cutsLoad e ≡ true

@@ -8,7 +8,7 @@ use mathlib.Core.Bool.{true, false, not, cond}
 use mathlib.Core.List.{List, [], _∷_, _++_}
 use lib.Dec.{ltb, eqb}
 use lib.ListN.{length}
-use borrow.Author.Tests.{lt-ltb, eq-eqb, ne-eqb, ltb-true, ltb-false}
+use borrow.Author.Tests.{eq-eqb, ne-eqb, ltb-true, ltb-false}
 use Rattle.rows.specs.Rows.{gave}
 use Rattle.rows.proofs.Bool.{split, never, and-left, and-right, not-true}
 use Rattle.tables.specs.declared.Header.{Header}
@@ -18,17 +18,18 @@ use Rattle.tables.specs.declared.Answered.{Answered}
 use Rattle.tables.specs.declared.Given.the-variants.{Nowhere}
 use Rattle.tables.specs.declared.Transfer.the-variants.{Idle, Read}
 use Rattle.tables.specs.Tables.{Three, tablesSized, wordsOf, withReadPlace}
-use Rattle.tables.specs.Port.{Desk, withTransfer, withPlaces, withGiven, dataCount, closeOf, readOpened, readOpenedAt, orderObeyed, tablesAfter, commandOf, readWord, readNext, wordGiven, statusOf}
+use Rattle.tables.specs.Port.{Desk, withTransfer, withPlaces, withGiven, dataCount, closeOf, readOpened, readOpenedAt, orderObeyed, tablesAfter, commandOf, readWord, readNext, wordGiven}
 use Rattle.tables.proofs.Obeying.{given-by}
 use Rattle.tables.proofs.Reading.{read-first, read-second, read-third, read-data}
 use Rattle.rules.specs.State.{soundPod, deskIn, withWords}
 use Rattle.rules.specs.Refusals.{done, reads}
-use Rattle.rules.specs.Families.{WordCall, command, dataIn, dataOut, status, wordOf}
+use Rattle.rules.specs.Families.{WordCall, command, dataOut, wordOf}
 use Rattle.rules.specs.World.{World, Call, word, told, Stepped, stepped, step, next, final}
 use Rattle.rules.specs.History.{Event, eventOf, events}
 use Rattle.rules.specs.Transfers.{Fit, cuts, cutsRead, leftOpen, callReads, readsIn, wordShown, Reads}
 use Rattle.rules.specs.Demands.{ReadWhole, ReadEnds, ReadMoves}
 use Rattle.rules.proofs.Happens.{happens, wording}
+use Rattle.rules.proofs.Fares.{WithRead, ending, going, fares}
 use Rattle.rules.proofs.Sound.{sound-next}
 use Rattle.rules.proofs.Between.{final-then, word-fit, Other, powers, sends, puts, touches, shows, Which, says, other, which, Ported, apart, ends, ported}
 
@@ -55,10 +56,6 @@ module _ (h : Header) (at : ℕ) (places : Places) where
   unfolding wordOf wordGiven
   reading w k o = ap (λ (a : Answered). stepped (gave (reads (a .word))) [] (withWords (a .words) (w .pod)) (w .lent)) (given-by (Read h k at) (w .pod .words) (w .lent .tables) (o .transfer))
 
-  more : (k : ℕ) → k + 1 < h .n → readNext h k at ≡ Read h (k + 1) at
-  unfolding readNext
-  more k l = rw (lt-ltb (k + 1) (h .n) l)
-
   -- so it stands, with other words of the port and the same lent
   stays : (v w : World) (k : ℕ) → Fit w → soundPod (v .pod) ≡ true → deskIn (v .lent) ≡ deskIn (w .lent) → v .pod .words .transfer ≡ Read h k at
       → v .pod .words .places ≡ places → v .pod .words .given ≡ Nowhere → Along v k
@@ -73,14 +70,13 @@ module _ (h : Header) (at : ℕ) (places : Places) where
   -- a table word that does not cut it
   word-along : (x : WordCall) (w : World) (k : ℕ) → cutsRead x ≡ false → k + callReads (word x) < h .n → soundPod (wording x w .world .pod) ≡ true
       → Along w k → Along (wording x w .world) (k + callReads (word x))
-  unfolding wordOf statusOf
-  word-along (command y) w k e l s o = never refl e
-  word-along (dataIn y) w k e l s o = never refl e
-  word-along dataOut w k e l s o =
-      let v = ap (λ (x : Stepped). x .world .pod .words) (reading w k o) in
-      stays _ w (k + 1) (o .fit) s refl (ap (λ (x : Words). x .transfer) v ∙ more k l) (ap (λ (x : Words). x .places) v ∙ o .moved)
-      (ap (λ (x : Words). x .given) v ∙ o .given)
-  word-along status w k e l s o = stays _ w (k + 0) (o .fit) s refl (o .transfer ∙ ap (λ (j : ℕ). Read h j at) (sym (add-zero k))) (o .moved) (o .given)
+  word-along x w k e l s o = on (fares x .read)
+    where
+      on : WithRead x → Along (wording x w .world) (k + callReads (word x))
+      on (ending i) = never i e
+      on (going f) =
+          let y = f (w .pod .initialised) (w .pod .words) (deskIn (w .lent)) h k at (o .transfer) l in
+          stays _ w (k + callReads (word x)) (o .fit) s (y .lent) (y .transfer) (y .places ∙ o .moved) (y .given ∙ o .given)
 
   -- any other call that does not
   other-along : {w v : World} {e : Event} → Ported w e v → (k : ℕ) → cuts cutsRead e ≡ false → soundPod (v .pod) ≡ true → Along w k → Along v k

@@ -2,7 +2,7 @@
 -- pods, or power on or an accepted Initialise makes them twins.
 -- Assumes nothing.
 use Prim.Native.Nat.{ℕ}
-use mathlib.Core.Path.{_≡_, refl, ap, ap₂}
+use mathlib.Core.Path.{_≡_, refl, ap, ap₂, _∙_}
 use mathlib.Core.Bool.{Bool, true, false}
 use mathlib.Core.List.{List, [], _∷_}
 use lib.ListN.{length}
@@ -20,23 +20,22 @@ use Rattle.packets.specs.declared.Parsed.the-variants.{Nothing, Error, Acknowle
 use Rattle.packets.specs.Commands.{commandRow}
 use Rattle.packets.specs.Reading.{packetRead}
 use Rattle.params.specs.declared.Params.{Params}
-use Rattle.tables.specs.declared.Words.{Words}
-use Rattle.tables.specs.declared.Transfer.the-variants.{Idle}
 use Rattle.tables.specs.Tables.{starts, tablesSized}
-use Rattle.tables.specs.Port.{Desk, tabled, startWords}
-use Rattle.tables.proofs.Closing.{off-command, idle-in, idle-out}
+use Rattle.tables.specs.Port.{Desk, startWords}
 use Rattle.rules.specs.declared.Exchange.the-variants.{Closed}
 use Rattle.rules.specs.declared.Pod.{Pod}
 use Rattle.rules.specs.State.{withParams, withRing, withWords, freshPod, soundPod, Lent, storeIn, withTables, deskIn}
 use Rattle.rules.specs.Obey.{shut, initialisedPod, checksOf, doneBy, obeyOf, matches, settled, acknowledgedOf}
 use Rattle.rules.specs.Refusals.{storeRow, stateRow, blockRow, asleepRow}
-use Rattle.rules.specs.Families.{WordCall, command, dataIn, dataOut, status, wordLent, wordOf, loneOf}
+use Rattle.rules.specs.Families.{WordCall, wordOf, wordLent, loneOf}
 use Rattle.rules.specs.Calls.{powerCall, replied, packetHeard, meantBody, replyBytes, spokenBytes, answered, packetCall, shelved, putCall, wordCall, reachOf, reached, loneCall, samplesCall}
 use Rattle.rules.specs.World.{World, world, Call, power, packet, put, word, lone, samples, Told, Stepped, overTables, overRoom, overStore, overDesk, overSent, overFrames, step, next, Point, tells}
 use Rattle.rules.specs.Pairs.{SizesAlike, sizesIn}
 use Rattle.rules.proofs.Stores.{store-same}
 use Rattle.rules.proofs.Lone.{lone-rows}
 use Rattle.rules.proofs.Happens.{wording}
+use Rattle.rules.proofs.WordRows.{rowed}
+use Rattle.rules.proofs.Fares.{fares}
 use Rattle.rules.proofs.Inside.{pod-in, off-closed, off-still}
 use Rattle.rules.proofs.Sound.{sound-next}
 use Rattle.rules.proofs.WordsAlike.{none-came}
@@ -77,15 +76,6 @@ module _ (l m : Lent) (sizes : sizesIn l ≡ sizesIn m) where
       }
 
 -- ---- what does nothing asleep
-
--- a table word, asleep, looks at no word that it is lent and passes them on
-word-asleep : (c : WordCall) (x : Words) (d e : Desk) → x .transfer ≡ Idle
-    → wordOf c false x e ≡ out (wordOf c false x d .said) (wordOf c false x d .pod) e
-unfolding wordOf
-word-asleep (command n) x d e idle = rw (off-command n (tabled x d), off-command n (tabled x e))
-word-asleep (dataIn n) x d e idle = rw (idle-in n (tabled x d) idle, idle-in n (tabled x e) idle)
-word-asleep dataOut x d e idle = rw (idle-out x (d .tables) idle, idle-out x (e .tables) idle)
-word-asleep status x d e idle = refl
 
 -- an acknowledgement, with no exchange open, does nothing
 acknowledged-asleep : (first : ℕ) (one : Bool) (p : Pod) → p .exchange ≡ Closed → acknowledgedOf first one p ≡ shut p
@@ -171,20 +161,12 @@ module _ (p : Pod) (q : Params) (a o : Ring) (l m : Lent) (sizes : sizesIn l ≡
 
   word-alike : (c : WordCall) → TellAlike (wording c w₁) (wording c w₂)
   word-alike c =
-      let x = p .words in
-      let d = deskIn l in
-      let idle = off-still p (pod-in p first) off in
-      let y = wordOf c false x d in
-      let e : wordOf c (p .initialised) x d ≡ out (y .said) (y .pod) d = rw off (word-asleep c x d d idle) in
-      let g : wordOf c (p .initialised) x (deskIn m) ≡ out (y .said) (y .pod) (deskIn m) = rw off (word-asleep c x d (deskIn m) idle) in
-      rw (e, g) (stays (withWords (y .pod) p) off)
+      let y = fares c .asleep (p .words) (off-still p (pod-in p first) off) in
+      let so : (d : Desk) → wordOf c (p .initialised) (p .words) d ≡ out (y .said) (y .words) d = λ d. ap (λ (b : Bool). wordOf c b (p .words) d) off ∙ y .is d in
+      rw (so (deskIn l), so (deskIn m)) (stays (withWords (y .words) p) off)
 
   word-rows : (c : WordCall) → wordLent c (l .tables) ≡ wordLent c (m .tables)
-  unfolding wordLent
-  word-rows (command x) = rw (tables-same l m sizes)
-  word-rows (dataIn x) = rw (tables-same l m sizes)
-  word-rows dataOut = rw (tables-same l m sizes)
-  word-rows status = refl
+  word-rows c = rw (rowed c .rows (l .tables), rowed c .rows (m .tables), tables-same l m sizes)
 
   steps-alike : (c : Call) → TellAlike (step w₁ c) (step w₂ c)
   unfolding step powerCall packetCall wordCall loneCall samplesCall storeSized freshPod startWords

@@ -7,7 +7,7 @@ use mathlib.Core.Bool.{Bool, true, false, _||_, cond}
 use mathlib.Core.Option.{Option, none as unmoved, some}
 use lib.Dec.{eqb}
 use lib.IntN.{ℤ}
-use Rattle.rows.specs.Rows.{Clear, none, past}
+use Rattle.rows.specs.Rows.{Out, Clear, none, past}
 use Rattle.rows.proofs.Bool.{by-test, not-false}
 use Rattle.blocks.specs.declared.Store.{Store}
 use Rattle.blocks.specs.declared.Store.the-variants.{Priority, Ordinary}
@@ -21,12 +21,11 @@ use Rattle.packets.proofs.Laws.{Within, bounded-within, within-bounded}
 use Rattle.params.specs.declared.Params.{Params}
 use Rattle.params.specs.Rules.{soundParams, writeAllowed, stored, writeOf}
 use Rattle.params.proofs.Laws.{write-sound}
-use Rattle.tables.specs.declared.Answered.{Answered}
-use Rattle.tables.specs.Port.{Desk, Tabled, tabled, statusOf}
+use Rattle.tables.specs.declared.Words.{Words}
+use Rattle.tables.specs.Port.{Desk}
 use Rattle.tables.specs.Bounds.{soundWords}
-use Rattle.tables.proofs.Kept.{close-sound, command-sound, data-in-sound, data-out-sound}
-use Rattle.tables.proofs.Closing.{close-idle, off-idle, idle-in, idle-out, wrong-idle}
-use Rattle.tables.proofs.Limits.{sound-places, sound-transfer, both-sound}
+use Rattle.tables.proofs.Kept.{close-sound}
+use Rattle.tables.proofs.Closing.{close-idle}
 use Rattle.pipe.specs.declared.Pipe.{Pipe}
 use Rattle.pipe.specs.Pipe.{soundPipe}
 use Rattle.pipe.proofs.Laws.{byte-sound, timeout-sound}
@@ -35,7 +34,8 @@ use Rattle.rules.specs.declared.Exchange.the-variants.{Closed, Status, R
 use Rattle.rules.specs.declared.Pod.{Pod}
 use Rattle.rules.specs.State.{Lent, deskIn, withExchange, withWords, withRemaining, ringOf, remainingOf, freshPod, soundPod}
 use Rattle.rules.specs.Obey.{shut, checksOf, doneBy, initialisedPod, matches, dropFrom, settled, acknowledgedOf}
-use Rattle.rules.specs.Families.{WordCall, command as commands, dataIn, dataOut, status, wordOf, PipeCall, byte, timeout, pipeOf}
+use Rattle.rules.specs.Refusals.{Giving}
+use Rattle.rules.specs.Families.{WordCall, wordOf, PipeCall, byte, timeout, pipeOf}
 use Rattle.rules.specs.Calls.{reachOf, reached, answered}
 use Rattle.rules.specs.World.{World, world, Call, power, Stepped, next, powered}
 use Rattle.rules.specs.History.{Touch, loneAs}
@@ -43,6 +43,7 @@ use Rattle.rules.specs.Demands.{KeptSound}
 use Rattle.rules.proofs.Lone.{movedBy, touchOf, lone-is}
 use Rattle.rules.proofs.Happens.{Happens, by-rows, by-power, by-empty, by-damage, by-acknowledgement, by-check, by-command, by-put, by-word, by-lone, by-samples, checks-shut, happens}
 use Rattle.rules.proofs.Fits.{put-fits}
+use Rattle.rules.proofs.Fares.{fares}
 use Rattle.rules.proofs.Inside.{PodIn, in-pod, pod-in, ring-in, off-still, in-shut, in-open, in-fields, in-params, in-ring, in-pipe, in-words, in-sleep, anew-in, fresh-in}
 
 -- ---- the commands
@@ -97,17 +98,11 @@ acknowledged-in first one p h =
 
 -- a table word
 pub word-in : (c : WordCall) (d : Desk) {p : Pod} → PodIn p → PodIn (withWords (wordOf c (p .initialised) (p .words) d .pod) p)
-unfolding wordOf statusOf
-word-in (commands x) d {p} h =
-    in-words h _ (command-sound (p .initialised) x (tabled (p .words) d) (h .words)) (λ off. rw off (off-idle x (tabled (p .words) d)))
-word-in (dataIn x) d {p} h =
-    in-words h _ (data-in-sound x (tabled (p .words) d) (h .words))
-    (λ off. ap (λ (y : Tabled). y .words .transfer) (idle-in x (tabled (p .words) d) (off-still p h off)) ∙ wrong-idle (p .words))
-word-in dataOut d {p} h =
-    in-words h _ (data-out-sound (p .words) (d .tables) (h .words))
-    (λ off. ap (λ (y : Answered). y .words .transfer) (idle-out (p .words) (d .tables) (off-still p h off)) ∙ wrong-idle (p .words))
-word-in status d {p} h =
-    in-words h _ (both-sound _ (sound-places (p .words) (h .words)) (sound-transfer (p .words) (h .words))) (λ off. off-still p h off)
+word-in c d {p} h =
+    in-words h _ (fares c .sound (p .initialised) (p .words) d (h .words))
+    (λ off.
+    let x = fares c .asleep (p .words) (off-still p h off) in
+    rw off (ap (λ (o : Out Giving Words Desk). o .pod .transfer) (x .is d) ∙ x .idle))
 
 -- a pipe call
 pub pipe-sound : (c : PipeCall) (i : Pipe) → soundPipe i ≡ true → soundPipe (pipeOf c i .pod) ≡ true

@@ -4,10 +4,10 @@
 use Prim.Native.Nat.{ℕ, _-_}
 use mathlib.Core.Path.{_≡_, refl, sym, ap, ap₂, _∙_}
 use mathlib.Core.Bool.{Bool, true, _||_}
-use mathlib.Core.List.{List, [], _∷_}
+use mathlib.Core.List.{List, [], _∷_, _++_}
 use lib.Dec.{eqb}
 use lib.ListN.{length}
-use Rattle.rows.specs.Rows.{Clear, Said, refused, gave, Out, out, given}
+use Rattle.rows.specs.Rows.{Row, Clear, Said, refused, gave, Out, out, given}
 use Rattle.rows.proofs.Bool.{by-test, not-false}
 use Rattle.rows.proofs.Laws.{clear-head, clear-rest, ran-two}
 use Rattle.blocks.specs.declared.Store.{Store}
@@ -30,8 +30,8 @@ use Rattle.rules.specs.declared.Exchange.the-variants.{Closed, Status, R
 use Rattle.rules.specs.declared.Pod.{Pod}
 use Rattle.rules.specs.State.{withFields, withWords, withRing, ringOf, remainingOf, withRemaining, freshPod, soundPod, Lent, storeIn, withStore, withTables, withDesk}
 use Rattle.rules.specs.Obey.{Meant, success, report, value, block, shut, initialisedPod, checksOf, doneBy, obeyOf, matches, dropFrom, settled, acknowledgedOf}
-use Rattle.rules.specs.Refusals.{Giving, allRow}
-use Rattle.rules.specs.Families.{WordCall, command, dataIn, dataOut, status, wordLent}
+use Rattle.rules.specs.Refusals.{Giving, allRow, stateRow}
+use Rattle.rules.specs.Families.{WordCall, wordLent}
 use Rattle.rules.specs.Calls.{powerCall, Spoken, silent, says, replied, packetHeard, meantBody, replyBytes, spokenBytes, answered, packetCall, putCall, wordRows, worded, wordCall, loneCall, samplesCall}
 use Rattle.rules.specs.World.{World, world, Call, power, packet, put, word, lone, samples, Told, Stepped, overTables, overRoom, overStore, overDesk, overSent, overFrames, step, rowsOf, Point, point, run}
 use Rattle.rules.proofs.Stores.{store-same}
@@ -39,7 +39,8 @@ use Rattle.rules.proofs.Happens.{putting, wording}
 use Rattle.rules.proofs.Inside.{pod-in, ring-in}
 use Rattle.rules.proofs.Fits.{PutFits, put-fits}
 use Rattle.tables.proofs.Stale.{gathered as cameOf}
-use Rattle.rules.proofs.WordsAlike.{Gathered, none-came, SameDesk, same-desk, words-alike}
+use Rattle.rules.proofs.WordsAlike.{Gathered, none-came, SameDesk, same-desk}
+use Rattle.rules.proofs.Fares.{fares}
 
 -- ---- one store
 
@@ -132,11 +133,11 @@ module _ (l m : Lent) where
 
 -- where no row of a table word holds, the pod is sound
 sound-word : (c : WordCall) (t : Three) (p : Pod) → Clear (wordRows c t p) → soundPod p ≡ true
-unfolding wordLent
-sound-word (command x) t p k = not-false (clear-head (clear-rest k))
-sound-word (dataIn x) t p k = not-false (clear-head (clear-rest k))
-sound-word dataOut t p k = not-false (clear-head (clear-rest k))
-sound-word status t p k = not-false (clear-head k)
+sound-word c t p k = on (wordLent c t) k
+  where
+    on : (rs : List Row) → Clear (rs ++ (stateRow p ∷ [])) → soundPod p ≡ true
+    on [] k = not-false (clear-head k)
+    on (r ∷ rs) k = on rs (clear-rest k)
 
 -- ---- what an answer shows
 
@@ -223,7 +224,7 @@ module _ (p : Pod) (l m : Lent) (h : Alike p l m) where
   put-same s b k = record { points = refl; twins = twin _ _ _ (added p h s b (put-fits s b w₁ k)) }
 
   word-same : (c : WordCall) → Clear (wordRows c (l .tables) p) → Same (wording c w₁) (wording c w₂)
-  word-same c k = on (words-alike c (p .initialised) (p .words) (l .tables) (l .load) (m .load) (pod-in p (sound-word c (l .tables) p k) .words) (h .load))
+  word-same c k = on (fares c .alike (p .initialised) (p .words) (l .tables) (l .load) (m .load) (pod-in p (sound-word c (l .tables) p k) .words) (h .load))
     where
       on : {o q : Out Giving Words Desk} → SameDesk o q → Same (overDesk (given (worded o p)) w₁) (overDesk (given (worded q p)) w₂)
       on (same-desk g x t d e k) =

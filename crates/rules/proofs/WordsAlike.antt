@@ -1,8 +1,7 @@
--- The table words beside two loads of which the same words have come: each says the same, and leaves the same tables and two such loads.
+-- Two loads of which the same words have come, and what leaves them so.
 -- Assumes nothing.
 use Prim.Native.Nat.{ℕ, _+_, _-_}
 use mathlib.Core.Path.{_≡_, refl}
-use mathlib.Core.Bool.{Bool, true}
 use mathlib.Core.List.{List}
 use lib.Dec.{ltb}
 use lib.ListN.{length, take}
@@ -14,12 +13,9 @@ use Rattle.orders.specs.declared.Order.the-variants.{Other, Stop, Restart, Next
 use Rattle.tables.specs.declared.Transfer.{Transfer}
 use Rattle.tables.specs.declared.Transfer.the-variants.{Idle, Address, Load, Read}
 use Rattle.tables.specs.Tables.{Three}
-use Rattle.orders.specs.Command.{orderHeard}
-use Rattle.tables.specs.Port.{Desk, desk, Tabled, fits, closeOf, wrongWay, readOpenedAt, readOpened, restarted, orderObeyed, commandOf, readNext, wordGiven, dataOutOf, statusOf}
-use Rattle.tables.specs.Bounds.{soundWords}
-use Rattle.tables.proofs.Stale.{gathered as cameOf, Unseen, data-in-unseen}
+use Rattle.tables.specs.Port.{Desk, desk, Tabled, fits, closeOf, wrongWay, readOpenedAt, readOpened, restarted, orderObeyed, readNext, wordGiven}
+use Rattle.tables.proofs.Stale.{gathered as cameOf, Unseen}
 use Rattle.rules.specs.Refusals.{Giving, done}
-use Rattle.rules.specs.Families.{WordCall, command, dataIn, dataOut, status, wordOf}
 
 -- the same k words have come; those behind them may differ
 pub record Gathered (k : ℕ) (d e : List ℕ) : Type 0 where
@@ -30,7 +26,7 @@ pub record Gathered (k : ℕ) (d e : List ℕ) : Type 0 where
 pub none-came : {d e : List ℕ} (k : ℕ) → k ≡ 0 → length d ≡ length e → Gathered k d e
 none-came k z h = rw z (record { long = h; came = refl })
 
--- ---- the four words
+-- ---- what a table word leaves
 
 -- the same is said, with the same port and tables, and the same words of an open load have come
 pub data SameDesk : Out Giving Words Desk → Out Giving Words Desk → Type 0 where
@@ -59,15 +55,7 @@ given-none (Load h k) w t = refl
 given-none (Read h k at) w t = by-test (λ (u : Transfer). cameOf u ≡ 0) (ltb (k + 1) (h .n)) (λ e. refl) (λ e. refl)
 
 -- a data word written, by the same words of a load
-unseen-same : (y d : Tabled) → Unseen y d
+pub unseen-same : (y d : Tabled) → Unseen y d
     → SameDesk (out done (y .words) (desk (y .desk .tables) (y .desk .load))) (out done (d .words) (desk (d .desk .tables) (d .desk .load)))
 unseen-same y d u =
     rw (u .words, u .tables) (same-desk done (d .words) (d .desk .tables) (y .desk .load) (d .desk .load) (record { long = u .long; came = u .first }))
-
-pub words-alike : (c : WordCall) (on : Bool) (w : Words) (t : Three) (d e : List ℕ) → soundWords w ≡ true → Gathered (cameOf (w .transfer)) d e
-    → SameDesk (wordOf c on w (desk t d)) (wordOf c on w (desk t e))
-unfolding wordOf commandOf dataOutOf statusOf
-words-alike (command x) on w t d e ok g = same-desk done _ _ d e (none-came _ (obeyed-none (orderHeard on x) w) (g .long))
-words-alike (dataIn x) on w t d e ok g = unseen-same _ _ (data-in-unseen x w t d e (g .long) ok (g .came))
-words-alike dataOut on w t d e ok g = same-desk _ _ _ d e (none-came _ (given-none (w .transfer) w t) (g .long))
-words-alike status on w t d e ok g = same-desk _ _ _ d e g

@@ -36,7 +36,7 @@ use Rattle.rules.specs.Checks.{Succeeds, Answers, damaged}
 use Rattle.rules.specs.Judged.{checkOf}
 use Rattle.rules.specs.Numbered.{rowHolds}
 use Rattle.rules.specs.Transfers.{cuts, cutsLoad, writtenIn, othersIn, opened, loaded, Loads, Loading, wordShown, readsIn, Reads, errorBy, tablesBy}
-use Rattle.rules.specs.Port.{portBy, wordPlaces, wordGives, wordOpens, isRead, ported, portedBy}
+use Rattle.rules.specs.Port.{portBy, heardIn, isRead, ported, portedBy}
 use Rattle.rules.specs.Pairs.{Accepts, ShutsDown, keptIn, seenIn, sizesIn, Asleep, Moment, pastOf}
 
 -- ---- 1. "Any packet, word, sample or state may arrive. Each is answered, or refused by a number in document 01"
@@ -131,14 +131,13 @@ PortOnly =
 abbrev pub PlacesOnly : Type 0
 PlacesOnly =
     (w : World) (c : WordCall) → isAnswered w (word c) ≡ true
-    → (next w (word c) .pod .words .places ≡ wordPlaces c (w .pod .initialised) (w .pod .words))
-    × (next w (word c) .pod .words .given ≡ wordGives c (w .pod .initialised) (w .pod .words))
+    → (next w (word c) .pod .words .places ≡ heardIn w c .words .places)
+    × (next w (word c) .pod .words .given ≡ heardIn w c .words .given)
 
 -- and the open transfer so
 abbrev pub TransferOnly : Type 0
 TransferOnly =
-    (w : World) (c : WordCall) → isAnswered w (word c) ≡ true
-    → next w (word c) .pod .words .transfer ≡ wordOpens c (w .pod .initialised) (w .pod .words)
+    (w : World) (c : WordCall) → isAnswered w (word c) ≡ true → next w (word c) .pod .words .transfer ≡ heardIn w c .words .transfer
 
 -- and so from power on all of the port, message error too, by the calls and what they told
 abbrev pub PortIsHistory : Type 0

@@ -2,6 +2,8 @@ pub mod State
 pub mod Refusals
 pub mod Obey
 pub mod Families
+pub mod Traits
+pub mod Heard
 pub mod Calls
 pub mod World
 pub mod Said

@@ -11,7 +11,8 @@ use Rattle.tables.specs.Tables.{tablesSized}
 use Rattle.frames.specs.Samples.{boundedOf}
 use Rattle.rules.specs.declared.Pod.{Pod}
 use Rattle.rules.specs.State.{Lent, storeIn, ringOf, soundPod}
-use Rattle.rules.specs.Families.{command, dataIn, dataOut, status, LoneCall, deadline, pipe}
+use Rattle.rules.specs.Families.{LoneCall, deadline, pipe}
+use Rattle.rules.specs.Traits.{traits}
 use Rattle.rules.specs.World.{World, Call, power, packet, put, word, lone, samples}
 
 -- 1: "packet call: answer room under 260 bytes"
@@ -29,10 +30,7 @@ abbrev pub sizeWrong : Call → Lent → Bool
 sizeWrong power l = not (tablesSized (l .tables))
 sizeWrong (packet b room) l = not (storeSized Priority (l .priority) && (storeSized Ordinary (l .ordinary) && tablesSized (l .tables)))
 sizeWrong (put s b) l = not (storeSized s (storeIn s l))
-sizeWrong (word (command x)) l = not (tablesSized (l .tables))
-sizeWrong (word (dataIn x)) l = not (tablesSized (l .tables))
-sizeWrong (word dataOut) l = not (tablesSized (l .tables))
-sizeWrong (word status) l = false
+sizeWrong (word c) l = traits c .lent && not (tablesSized (l .tables))
 sizeWrong (lone c) l = false
 sizeWrong (samples k xs) l = false
 

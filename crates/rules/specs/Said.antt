@@ -6,7 +6,8 @@ use mathlib.Core.List.{[]}
 use mathlib.Core.Option.{Option, none, some}
 use Rattle.rows.specs.Rows.{gave}
 use Rattle.rules.specs.Refusals.{done}
-use Rattle.rules.specs.Families.{command, dataIn, dataOut, status, PipeCall}
+use Rattle.rules.specs.Families.{PipeCall}
+use Rattle.rules.specs.Traits.{traits}
 use Rattle.rules.specs.World.{World, Call, power, packet, put, word, lone, samples, isAnswered, step}
 use Rattle.rules.specs.History.{loneAs}
 
@@ -15,10 +16,7 @@ abbrev pub givesNumber : Call → Bool
 givesNumber power = false
 givesNumber (packet b room) = true
 givesNumber (put s b) = false
-givesNumber (word (command x)) = false
-givesNumber (word (dataIn x)) = false
-givesNumber (word dataOut) = true
-givesNumber (word status) = true
+givesNumber (word c) = traits c .gives
 givesNumber (lone c) = false
 givesNumber (samples k xs) = false
 

@@ -1,24 +1,23 @@
--- Loads and reads with the calls that come in between their words, the tables and message error: by what happens, the open transfer
--- and the order heard.
+-- Loads and reads with the calls that come in between their words, and the tables and message error after any call.
 -- Assumes nothing.
 use Prim.Native.Nat.{ℕ, _+_, _-_, _<_}
 use mathlib.Core.Path.{_≡_}
 use mathlib.Core.Bool.{Bool, true, false, not, _&&_, _||_, cond}
 use mathlib.Core.List.{List, [], _∷_, _++_}
-use lib.Dec.{ltb, eqb}
-use lib.ListN.{length, getD, set}
+use lib.Dec.{eqb}
+use lib.ListN.{length, getD}
 use lib.Seq.{sets}
 use Rattle.tables.specs.declared.Header.{Header}
 use Rattle.tables.specs.declared.Words.{Words}
-use Rattle.orders.specs.declared.Order.{Order}
-use Rattle.orders.specs.declared.Order.the-variants.{Other, Stop, Restart, Next, Writing, Reading}
-use Rattle.tables.specs.declared.Transfer.{Transfer}
-use Rattle.tables.specs.declared.Transfer.the-variants.{Idle, Address, Load, Read}
-use Rattle.tables.specs.Tables.{Three, starts, tablesSized, wordsOf, withTable, readPlace}
+use Rattle.orders.specs.declared.Order.the-variants.{Writing, Reading}
+use Rattle.tables.specs.declared.Transfer.the-variants.{Idle, Load}
+use Rattle.tables.specs.Tables.{Three, starts, tablesSized, wordsOf, readPlace}
 use Rattle.orders.specs.Command.{tableNumber, orderHeard}
-use Rattle.tables.specs.Port.{Desk, desk, dataCount, fits, header, isOpen, beginsAt, closeOf, withTransfer, withError, loadRight, storedIn}
+use Rattle.tables.specs.Port.{Desk, desk, dataCount, fits, isOpen, beginsAt, closeOf, withTransfer, withError, loadRight}
 use Rattle.rules.specs.State.{soundPod, withWords, withDesk}
-use Rattle.rules.specs.Families.{WordCall, command, dataIn, dataOut, status}
+use Rattle.rules.specs.Families.{WordCall, command}
+use Rattle.rules.specs.Traits.{traits}
+use Rattle.rules.specs.Heard.{judged, wordHeard}
 use Rattle.rules.specs.World.{World, world, withPod, Call, power, packet, put, word, lone, samples, next}
 use Rattle.rules.specs.History.{Event, nothing, begins, sleeps, updates, writesParameter, opensExchange, closesExchange, hearsAcknowledgement, puts, words, touches, events}
 
@@ -31,19 +30,13 @@ pub record Fit (w : World) : Type 0 where
 
 -- ---- the calls between
 
--- what closes an open transfer before its last word, its own words not counted: "every command word", "a data word .. with no transfer
--- that way", Shutdown, and all that begins anew
+-- what closes an open transfer before its last word, its own words not counted: a table word by its traits, Shutdown, and all that
+-- begins anew
 abbrev pub cutsLoad : WordCall → Bool
-cutsLoad (command x) = true
-cutsLoad (dataIn x) = false
-cutsLoad dataOut = true
-cutsLoad status = false
+cutsLoad c = traits c .cutsload
 
 abbrev pub cutsRead : WordCall → Bool
-cutsRead (command x) = true
-cutsRead (dataIn x) = true
-cutsRead dataOut = false
-cutsRead status = false
+cutsRead c = traits c .cutsread
 
 unfoldable pub cuts : (WordCall → Bool) → Event → Bool
 cuts f nothing = false
@@ -64,31 +57,19 @@ leftOpen f [] = true
 leftOpen f (e ∷ es) = not (cuts f e) && leftOpen f es
 
 -- the data words that a call writes, and how many it reads
-abbrev pub dataWritten : WordCall → List ℕ
-dataWritten (command x) = []
-dataWritten (dataIn x) = x ∷ []
-dataWritten dataOut = []
-dataWritten status = []
-
 abbrev pub callWritten : Call → List ℕ
 callWritten power = []
 callWritten (packet b room) = []
 callWritten (put s b) = []
-callWritten (word c) = dataWritten c
+callWritten (word c) = traits c .written
 callWritten (lone c) = []
 callWritten (samples k xs) = []
-
-abbrev pub wordReads : WordCall → ℕ
-wordReads (command x) = 0
-wordReads (dataIn x) = 0
-wordReads dataOut = 1
-wordReads status = 0
 
 abbrev pub callReads : Call → ℕ
 callReads power = 0
 callReads (packet b room) = 0
 callReads (put s b) = 0
-callReads (word c) = wordReads c
+callReads (word c) = traits c .reads
 callReads (lone c) = 0
 callReads (samples k xs) = 0
 
@@ -110,10 +91,6 @@ readsIn (c ∷ cs) = callReads c + readsIn cs
 -- the world with a load open of which no word has come, any other transfer being closed
 abbrev pub opened : Header → World → World
 opened h w = withPod (withWords (withTransfer (Load h 0) (closeOf (w .pod .words))) (w .pod)) w
-
--- the tables with a load of these words: where every check passes the addressed words of its table are new, else none is
-abbrev pub judged : Header → List ℕ → Three → Three
-judged h xs s = cond (loadRight h xs) (withTable (h .table) (storedIn h xs (wordsOf (h .table) s)) s) s
 
 -- a world with these tables so, and its open load closed, message error being set where a check fails; all else is as it was
 abbrev pub loaded : Header → List ℕ → Three → World → World
@@ -160,37 +137,7 @@ pub record Reads (w : World) (x : ℕ) (h : Header) (at : ℕ) (cs : List Call) 
 
 -- ---- message error
 
--- an order that is not accepted, or a read that would pass its table's end
-abbrev pub notTaken : Order → Words → Bool
-notTaken Other w = true
-notTaken Stop w = false
-notTaken Restart w = false
-notTaken Next w = false
-notTaken (Writing t n) w = false
-notTaken (Reading t n) w = not (fits t (beginsAt (w .given) (readPlace t (w .places))) (n - 3))
-
--- a data word written: "with no transfer that way sets message error"; a load "is judged with its last word"
-abbrev pub errsIn : Transfer → ℕ → List ℕ → Bool → Bool
-errsIn Idle x l e = true
-errsIn Address x l e = e
-errsIn (Load h k) x l e = e || (not (ltb (k + 1) (h .n)) && not (loadRight h (set l k x)))
-errsIn (Read h k at) x l e = true
-
-abbrev pub errsOut : Transfer → Bool → Bool
-errsOut Idle e = true
-errsOut Address e = true
-errsOut (Load h k) e = true
-errsOut (Read h k at) e = e
-
--- message error after a table word, e before it: "every command word closes an open transfer, and closing one before its last word
--- sets message error"; "reading it clears the error"
-unfoldable pub wordErrs : WordCall → Bool → Words → List ℕ → Bool → Bool
-wordErrs (command x) on w l e = e || (isOpen (w .transfer) || notTaken (orderHeard on x) w)
-wordErrs (dataIn x) on w l e = errsIn (w .transfer) x l e
-wordErrs dataOut on w l e = errsOut (w .transfer) e
-wordErrs status on w l e = false
-
--- and after any call, e before it, by the open transfer and the words of a load so far; on says whether the pod was initialised
+-- after any call, e before it, by the open transfer and the words of a load so far; on says whether the pod was initialised
 unfoldable pub errorBy : Event → Bool → Words → List ℕ → Bool → Bool
 errorBy nothing on w l e = e
 errorBy (begins a f) on w l e = false
@@ -201,31 +148,10 @@ errorBy (opensExchange x) on w l e = e
 errorBy closesExchange on w l e = e
 errorBy (hearsAcknowledgement first one) on w l e = e
 errorBy (puts s b) on w l e = e
-errorBy (words c) on w l e = wordErrs c on w l e
+errorBy (words c) on w l e = wordHeard c on (withError e w) l .words .error
 errorBy (touches t b) on w l e = e
 
 -- ---- the tables
-
-abbrev pub isRestart : Order → Bool
-isRestart Other = false
-isRestart Stop = false
-isRestart Restart = true
-isRestart Next = false
-isRestart (Writing t n) = false
-isRestart (Reading t n) = false
-
--- a load "changes the addressed words and no other", and only with its last word
-abbrev pub tablesIn : Transfer → ℕ → Desk → Three
-tablesIn Idle x d = d .tables
-tablesIn Address x d = d .tables
-tablesIn (Load h k) x d = cond (ltb (k + 1) (h .n)) (d .tables) (judged h (set (d .load) k x) (d .tables))
-tablesIn (Read h k at) x d = d .tables
-
-unfoldable pub wordTables : WordCall → Bool → Words → Desk → Three
-wordTables (command x) on w d = cond (isRestart (orderHeard on x)) starts (d .tables)
-wordTables (dataIn x) on w d = tablesIn (w .transfer) x d
-wordTables dataOut on w d = d .tables
-wordTables status on w d = d .tables
 
 -- the tables after any call: power on and an accepted Initialise leave "tables .. at their starts"
 unfoldable pub tablesBy : Event → Bool → Words → Desk → Three
@@ -238,5 +164,5 @@ tablesBy (opensExchange x) on w d = d .tables
 tablesBy closesExchange on w d = d .tables
 tablesBy (hearsAcknowledgement first one) on w d = d .tables
 tablesBy (puts s b) on w d = d .tables
-tablesBy (words c) on w d = wordTables c on w d
+tablesBy (words c) on w d = wordHeard c on w (d .load) .tables (d .tables)
 tablesBy (touches t l) on w d = d .tables
