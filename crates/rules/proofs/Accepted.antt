@@ -14,6 +14,7 @@ use Rattle.packets.specs.declared.Parsed.the-variants.{Asked}
 use Rattle.packets.specs.Commands.{commandRow}
 use Rattle.packets.specs.Reading.{packetRead}
 use Rattle.rules.specs.Obey.{checksOf}
+use Rattle.rules.specs.Calls.{packetHeard, answered, spokenBytes, replyBytes}
 use Rattle.rules.specs.World.{World, packet, Stepped, step, rowsOf}
 use Rattle.rules.specs.History.{succeeded}
 use Rattle.rules.proofs.Happens.{Happens, by-rows, by-empty, by-damage, by-acknowledgement, by-check, by-command, obeying, happens}
@@ -26,7 +27,7 @@ pub record Accepted (c : Command) (b room : List ℕ) (w : World) (s : Stepped) 
 
 accepted-by : {c : Command} {b room : List ℕ} {w : World} {s : Stepped} → Happens w (packet b room) s → packetRead b ≡ Asked c → succeeded (s .told) ≡ true
     → Accepted c b room w s
-unfolding succeeded
+unfolding succeeded packetHeard answered spokenBytes replyBytes
 accepted-by (by-rows c n f) asks ok = never ok refl
 accepted-by (by-empty b room k e) asks ok = never ok refl
 accepted-by (by-damage b room first n k e) asks ok = let z : _≡_ {A = ℕ} 0 1 = cc in absurd (omega arith)

@@ -19,7 +19,7 @@ use Rattle.rules.specs.Obey.{initialisedPod, doneBy}
 use Rattle.rules.specs.Refusals.{stateRow}
 use Rattle.rules.specs.Families.{WordCall, LoneCall}
 use Rattle.rules.specs.Traits.{traits}
-use Rattle.rules.specs.Calls.{answered, wordCall}
+use Rattle.rules.specs.Calls.{answered, wordCall, packetHeard, spokenBytes, replyBytes}
 use Rattle.rules.specs.World.{World, Call, power, packet, put, word, lone, samples, Stepped, step, rowsOf, next, final}
 use Rattle.rules.specs.History.{Event, words, obeyedAs, eventOf}
 use Rattle.rules.specs.Transfers.{Fit, cuts}
@@ -100,7 +100,7 @@ command-ported w room Data = apart _ _ (λ g. refl) (record { words = refl; desk
 command-ported w room Shutdown = ends _ _ (λ g. refl) refl refl
 
 pub ported : {w : World} {c : Call} {s : Stepped} → Other c → Happens w c s → Ported w (eventOf c (s .told)) (s .world)
-unfolding eventOf cuts freshPod startWords
+unfolding eventOf cuts freshPod startWords packetHeard answered spokenBytes replyBytes
 ported {w} o (by-rows c n f) = apart _ _ (λ g. refl) (still w)
 ported o (by-power k) = ends _ _ (λ g. refl) refl refl
 ported {w} o (by-empty b room k e) = rw e (apart _ _ (λ g. refl) (still w))

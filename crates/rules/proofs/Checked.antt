@@ -30,7 +30,7 @@ use Rattle.rules.specs.declared.Pod.{Pod}
 use Rattle.rules.specs.State.{Lent, storeIn, ringOf, freshPod}
 use Rattle.rules.specs.Obey.{initialisedPod, shut, checksOf, receiveChecks, doneBy, received, exchangeCode, reportOf}
 use Rattle.rules.specs.Refusals.{bytes}
-use Rattle.rules.specs.Calls.{meantBody, replyBytes, spokenBytes, answered}
+use Rattle.rules.specs.Calls.{meantBody, replyBytes, spokenBytes, answered, packetHeard}
 use Rattle.rules.specs.World.{World, withPod, packet, answering, Stepped, rowsOf, isRefused}
 use Rattle.rules.specs.History.{succeeded, errored}
 use Rattle.rules.specs.Checks.{Succeeds, Answers, damaged}
@@ -143,6 +143,7 @@ module _ (w : World) (b room : List ℕ) (k : Clear (rowsOf w (packet b room))) 
       }
 
 pub packet-answered : PacketAnswered
+unfolding packetHeard answered spokenBytes replyBytes
 packet-answered w b room h = on (happens w (packet b room)) (answered-clear w (packet b room) h)
   where
     on : {s : Stepped} → Happens w (packet b room) s → Clear (rowsOf w (packet b room)) → Answers (packetRead b) (w .pod) room (s .told)
@@ -199,6 +200,7 @@ damaged-read b h =
 
 -- "A damaged packet closes at most an open exchange."
 pub damage : Damage
+unfolding packetHeard answered spokenBytes replyBytes
 damage w b room h = on (happens w (packet b room)) (damaged-read b h)
   where
     on : {s : Stepped} → Happens w (packet b room) s → packetRead b ≡ Error (getD b 0 0) 0x01
@@ -212,6 +214,7 @@ damage w b room h = on (happens w (packet b room)) (damaged-read b h)
 
 -- and is answered so
 pub damage-answered : DamageAnswered
+unfolding packetHeard answered spokenBytes replyBytes
 damage-answered w b room h a = on (happens w (packet b room)) (damaged-read b h) (answered-clear w (packet b room) a)
   where
     on : {s : Stepped} → Happens w (packet b room) s → packetRead b ≡ Error (getD b 0 0) 0x01 → Clear (rowsOf w (packet b room))
@@ -225,7 +228,7 @@ damage-answered w b room h a = on (happens w (packet b room)) (damaged-read b h)
 
 -- a packet that gets an error answer changes nothing but an open exchange
 pub error-unchanged : ErrorUnchanged
-unfolding errored answered spokenBytes replyBytes
+unfolding errored answered spokenBytes replyBytes packetHeard
 error-unchanged w b room h = on (happens w (packet b room)) h
   where
     on : {s : Stepped} → Happens w (packet b room) s → errored (s .told) ≡ true → s .world ≡ withPod (shut (w .pod)) w

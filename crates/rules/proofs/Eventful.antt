@@ -24,7 +24,7 @@ use Rattle.rules.specs.declared.Exchange.the-variants as exchange
 use Rattle.rules.specs.State.{ofStore, remainingOf, freshFields, soundPod, withExchange}
 use Rattle.rules.specs.Obey.{shut, checksOf, doneBy, acknowledgedOf}
 use Rattle.rules.specs.Families.{WordCall}
-use Rattle.rules.specs.Calls.{replyBytes, spokenBytes, answered, reachOf, reached}
+use Rattle.rules.specs.Calls.{replyBytes, spokenBytes, answered, reachOf, reached, packetHeard}
 use Rattle.rules.specs.World.{World, world, Call, packet, put, word, Stepped, overSent, rowsOf}
 use Rattle.rules.specs.History.{Event, nothing, begins, sleeps, updates, writesParameter, opensExchange, closesExchange, hearsAcknowledgement, puts, words, Touch, loneAs, touches, obeyedAs, succeeded, eventOf}
 use Rattle.rules.proofs.Happens.{Happens, by-rows, by-power, by-empty, by-damage, by-acknowledgement, by-check, by-command, by-put, by-word, by-lone, by-samples, powering, obeying, putting, wording}
@@ -89,7 +89,7 @@ module _ (w : World) (room : List ℕ) (wide : 260 ≤ length room) where
   command-succeeds c = one-succeeds room (commandRow c .code) _ wide
 
 pub eventful : {w : World} {c : Call} {s : Stepped} → Happens w c s → Eventful w (eventOf c (s .told)) (s .world)
-unfolding eventOf
+unfolding eventOf packetHeard answered spokenBytes replyBytes
 eventful (by-rows c n f) = quiet
 eventful (by-power k) = anew
 eventful {w} (by-empty b room k e) = rw e quiet

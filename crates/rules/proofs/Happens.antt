@@ -39,6 +39,10 @@ telling answer room p w = overRoom (given (written answer room p (w .lent))) w
 abbrev pub erring : ℕ → ℕ → List ℕ → World → Stepped
 erring first n room w = telling (errorAnswer first n) room (shut (w .pod)) w
 
+-- a packet that is no command, by what it is read as
+abbrev pub hearing : Parsed → List ℕ → World → Stepped
+hearing r room w = overRoom (given (answered (packetHeard r (w .lent) (w .pod)) room)) w
+
 abbrev pub obeying : Command → List ℕ → World → Stepped
 obeying c room w = overRoom (given (answered (replied (commandRow c .code) (given (doneBy c (w .lent) (shut (w .pod))))) room)) w
 
@@ -60,11 +64,11 @@ pub data Happens (w : World) : Call → Stepped → Type 0 where
   by-rows : (c : Call) (n : ℕ) → First n (rowsOf w c) → Happens w c (stepped (refused n) (roomOf c) (w .pod) (w .lent))
   by-power : Clear (rowsOf w power) → Happens w power (powering w)
   by-empty : (b room : List ℕ) → Clear (rowsOf w (packet b room)) → packetRead b ≡ Nothing
-      → Happens w (packet b room) (telling [] room (w .pod) w)
+      → Happens w (packet b room) (hearing Nothing room w)
   by-damage : (b room : List ℕ) (first n : ℕ) → Clear (rowsOf w (packet b room)) → packetRead b ≡ Error first n
-      → Happens w (packet b room) (erring first n room w)
+      → Happens w (packet b room) (hearing (Error first n) room w)
   by-acknowledgement : (b room : List ℕ) (first : ℕ) (one : Bool) → Clear (rowsOf w (packet b room)) → packetRead b ≡ Acknowledgement first one
-      → Happens w (packet b room) (telling [] room (acknowledgedOf first one (w .pod)) w)
+      → Happens w (packet b room) (hearing (Acknowledgement first one) room w)
   by-check : (b room : List ℕ) (c : Command) (n : ℕ) → Clear (rowsOf w (packet b room)) → packetRead b ≡ Asked c
       → First n (checksOf c (w .pod)) → Happens w (packet b room) (erring (commandRow c .code) n room w)
   by-command : (b room : List ℕ) (c : Command) → Clear (rowsOf w (packet b room)) → packetRead b ≡ Asked c
@@ -88,17 +92,14 @@ checks-shut Shutdown p = refl
 
 -- a packet that is not refused, by what it is read as
 module _ (w : World) (b room : List ℕ) (k : Clear (rowsOf w (packet b room))) where
-  obeyed : (c : Command) → packetRead b ≡ Asked c
-      → Happens w (packet b room) (overRoom (given (answered (replied (commandRow c .code) (obeyOf c (w .lent) (shut (w .pod)))) room)) w)
-  unfolding obeyOf answered spokenBytes replyBytes
+  obeyed : (c : Command) → packetRead b ≡ Asked c → Happens w (packet b room) (hearing (Asked c) room w)
+  unfolding packetHeard obeyOf answered spokenBytes replyBytes
   obeyed c e =
       ran-case (λ o. Happens w (packet b room) (overRoom (given (answered (replied (commandRow c .code) o) room)) w)) (checksOf c (shut (w .pod)))
       (λ n f. by-check b room c n k e (rw (checks-shut c (w .pod)) at f))
       (λ q. by-command b room c k e (rw (checks-shut c (w .pod)) at q))
 
-  heard : (r : Parsed) → packetRead b ≡ r
-      → Happens w (packet b room) (overRoom (given (answered (packetHeard r (w .lent) (w .pod)) room)) w)
-  unfolding packetHeard answered spokenBytes replyBytes
+  heard : (r : Parsed) → packetRead b ≡ r → Happens w (packet b room) (hearing r room w)
   heard Nothing e = by-empty b room k e
   heard (Error first n) e = by-damage b room first n k e
   heard (Acknowledgement first one) e = by-acknowledgement b room first one k e

@@ -16,6 +16,7 @@ use Rattle.rules.specs.declared.Exchange.the-variants.{Closed, Status, R
 use Rattle.rules.specs.declared.Pod.{Pod}
 use Rattle.rules.specs.State.{ringOf, remainingOf, freshFields, freshPod}
 use Rattle.rules.specs.Obey.{matches, dropFrom, settled, acknowledgedOf}
+use Rattle.rules.specs.Calls.{packetHeard, answered, spokenBytes, replyBytes}
 use Rattle.rules.specs.World.{packet, Stepped, rowsOf, powered}
 use Rattle.rules.specs.History.{exchangeBy}
 use Rattle.rules.specs.Demands.{blank}
@@ -74,6 +75,7 @@ module _ (p : Pod) where
       by-test (SameIn s p) (matches first one (p .exchange)) (λ e. settled-kept s (p .exchange) g) (λ e. (refl, refl))
 
 pub drop-guarded : DropGuarded
+unfolding packetHeard answered spokenBytes replyBytes
 drop-guarded s w b room first one a h g = on (happens w (packet b room)) (answered-clear w (packet b room) h) a
   where
     on : {t : Stepped} → Happens w (packet b room) t → Clear (rowsOf w (packet b room)) → packetRead b ≡ Acknowledgement first one

@@ -36,7 +36,7 @@ use Rattle.rules.specs.State.{Lent, deskIn, withExchange, withWords, wit
 use Rattle.rules.specs.Obey.{shut, checksOf, doneBy, initialisedPod, matches, dropFrom, settled, acknowledgedOf}
 use Rattle.rules.specs.Refusals.{Giving}
 use Rattle.rules.specs.Families.{WordCall, wordOf, PipeCall, byte, timeout, pipeOf}
-use Rattle.rules.specs.Calls.{reachOf, reached, answered}
+use Rattle.rules.specs.Calls.{reachOf, reached, answered, packetHeard, spokenBytes, replyBytes}
 use Rattle.rules.specs.World.{World, world, Call, power, Stepped, next, powered}
 use Rattle.rules.specs.History.{Touch, loneAs}
 use Rattle.rules.specs.Demands.{KeptSound}
@@ -125,7 +125,7 @@ touch-in t {p} h = in-pipe (closed-in (t .closes) h) _ (moved-sound (t .moves) (
 -- ---- every call
 
 pub step-in : {w : World} {c : Call} {s : Stepped} → Happens w c s → PodIn (w .pod) → PodIn (s .world .pod)
-unfolding answered
+unfolding answered packetHeard spokenBytes replyBytes
 step-in (by-rows c n f) h = h
 step-in (by-power k) h = fresh-in
 step-in (by-empty b room k e) h = h
