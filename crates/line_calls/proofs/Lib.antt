@@ -1,3 +1,4 @@
+pub mod Asks
 pub mod Short
 pub mod Steps
 pub mod Parts

@@ -1,9 +1,10 @@
 -- What comes back of the parts that were lent, and that what lies behind them stays.
 -- Assumes nothing.
 use Prim.Native.Nat.{ℕ, _≤_}
+use native.Mathlib.Omega.{arith}
 use mathlib.Core.Path.{_≡_, sym, subst, _∙_}
 use mathlib.Core.List.{List, [], _++_}
-use lib.ListN.{length, take, drop}
+use lib.ListN.{length, take, drop, length-append, length-drop}
 use lib.Seq.{length-take-le, take-at, drop-at}
 use Rattle.rules.specs.declared.Pod.{Pod}
 use Rattle.lines.specs.Asked.{Asked}
@@ -19,6 +20,9 @@ module _ (k : ℕ) (whole part : List ℕ) (fits : k ≤ length whole) (kept : l
 
   rest-is : drop k (part ++ drop k whole) ≡ drop k whole
   rest-is = drop-at part (drop k whole) k (kept ∙ length-take-le k whole fits)
+
+  pub whole-is : length (part ++ drop k whole) ≡ length whole
+  whole-is = omega (arith, fits, kept, length-take-le k whole fits, length-append part (drop k whole), length-drop k whole)
 
 -- each part comes back as long as it was lent
 pub record PartsKept (s : Sizes) (m parts : Memory) : Type 0 where

@@ -58,6 +58,11 @@ answered-by a p m m′ r o o′ at s bs text q e er et eq w =
       printed = subst (λ (x : List ℕ). Printed x at (r .at) o o′) (et ∙ ap (λ (x : Stepped). lineText a (x .told)) (sym e)) w;
     }
 
+-- what is asked in other words
+pub answered-as : (p : Pod) (m m′ : Memory) (r : LineSaid) (o o′ : List ℕ) (at : ℕ) {a b : Asked} → a ≡ b → LineAnswered b p m m′ r o o′ at
+    → LineAnswered a p m m′ r o o′ at
+answered-as p m m′ r o o′ at e h = subst (λ (x : Asked). LineAnswered x p m m′ r o o′ at) (sym e) h
+
 module _ (p : Pod) (m : Memory) (r : LineSaid) (o o′ : List ℕ) (at : ℕ) where
   abbrev w : World
   w = world p (lentIn m)

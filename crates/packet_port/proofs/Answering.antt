@@ -2,13 +2,13 @@
 -- Assumes nothing.
 use Prim.Native.Nat.{ℕ, _<_}
 use native.Mathlib.Omega.{arith}
-use mathlib.Core.Path.{_≡_, refl, subst⁻¹}
+use mathlib.Core.Path.{_≡_, refl, ap, subst⁻¹, _∙_}
 use mathlib.Core.Bool.{Bool, true, false, cond}
 use mathlib.Core.List.{List, [], _∷_}
 use lib.ListN.{length}
 use borrow.Author.Tests.{eqb-false}
 use Rattle.rows.specs.Rows.{Said, gave, Out, out, given, Clear, past}
-use Rattle.rows.proofs.Laws.{ran-case}
+use Rattle.rows.proofs.Laws.{ran-case, given-is}
 use Rattle.blocks.specs.declared.Store.{Store}
 use Rattle.blocks.specs.declared.Store.the-variants.{Priority, Ordinary}
 use Rattle.blocks.specs.declared.Ring.{Ring}
@@ -26,11 +26,16 @@ use Rattle.rules.specs.declared.Obeyed.{Obeyed}
 use Rattle.rules.specs.State.{Lent, storeIn, withStores, withTables, ringOf, soundPod}
 use Rattle.rules.specs.Refusals.{bytes}
 use Rattle.rules.specs.Obey.{Meant, block, replySaid, shut, checksOf, doneBy, obeyOf}
-use Rattle.rules.specs.Calls.{roomed, replied, replyBytes, spokenBytes, written, answered}
+use Rattle.rules.specs.Calls.{roomed, replied, replyBytes, spokenBytes, written, answered, packetHeard, packetRows, packetCall}
 use Rattle.rules.proofs.Inside.{PodIn, in-pod, pod-in, in-shut}
 use Rattle.rules.proofs.Sound.{command-in}
 use Rattle.commands.specs.Does.{Does}
-use Rattle.packet_port.specs.Port.{RoomReady, Waits}
+use Rattle.gates.specs.declared.Gate.{Gate}
+use Rattle.gates.specs.declared.Gate.the-variants.{Open}
+use Rattle.gates.specs.Gates.{Gated}
+use Rattle.gates.proofs.Told.{open-clear}
+use Rattle.packet_port.specs.declared.port.Replied.{Replied}
+use Rattle.packet_port.specs.Port.{RoomReady, Waits, PortAnswers}
 
 -- a command's packet is not empty
 pub asked-some : (b : List ℕ) (c : Command) → packetRead b ≡ Asked c → 0 < length b
@@ -103,3 +108,13 @@ stores-stay false a b l = refl
 pub tables-moved : (restart : Bool) (t u : Three) (l : Lent) → u ≡ cond restart starts t → withTables u l ≡ cond restart (withTables starts (withTables t l)) (withTables t l)
 tables-moved true t u l e = rw e
 tables-moved false t u l e = rw e
+
+-- a packet that no row refuses: what is heard, with the tables at their starts or as they were
+pub packet-given : (b room a o : List ℕ) (t : Three) (l : Lent) (p : Pod) (r : Replied) {after : List ℕ} {u : Three} {g : Gate}
+    → PortAnswers r (withTables t (withStores a o l)) room after (packetHeard (packetRead b) (withTables t (withStores a o l)) p)
+    → u ≡ cond (r .restart) starts t → g ≡ Open → Gated g (packetRows (roomed room (withTables t (withStores a o l))) p)
+    → out (gave (bytes (r .count))) (r .pod) (roomed after (withTables u (withStores a o l))) ≡ packetCall b (roomed room (withTables t (withStores a o l))) p
+unfolding packetCall
+packet-given b room a o t l p r {after} h e is k =
+    ap (λ (x : Lent). out (gave (bytes (r .count))) (r .pod) (roomed after x)) (tables-moved (r .restart) t _ (withStores a o l) e)
+    ∙ h ∙ given-is p (roomed room (withTables t (withStores a o l))) _ (open-clear is k)

@@ -13,4 +13,5 @@ returns-2 c =
 pub restart-spec : {M : Type 1} → statement M
 restart-spec =
     tie.close (tie.spec (λ c. rw (not-true {b = c .before .before .before .before .args .yes} (c .if1 .taken)))
-    (λ c κs. c .before .before .before .before .before .before .before .pre) (λ c. search needs) (λ c. search needs) (λ c. search needs) returns-2)
+    (λ c κs. c .before .before .before .before .before .before .before .pre) (λ c. c .before .before .before .before .before .five .given)
+    (λ c. c .before .before .before .six .given) (λ c. c .before .seven .given) returns-2)

@@ -1,5 +1,5 @@
 -- `packet_port::power::power_on` meets its contract. Assumes nothing.
-use mathlib.Core.Path.{ap, _∙_}
+use mathlib.Core.Path.{refl, ap, _∙_}
 use Rattle.rows.specs.Rows.{here, none, past, out, gave}
 use Rattle.rows.proofs.Bool.{as-row}
 use Rattle.rows.proofs.Laws.{refused-is, given-is}
@@ -24,7 +24,7 @@ returns-2 c =
 pub power-on-spec : {M : Type 1} → statement M
 unfolding powerCall answerSaid refusalNumber
 power-on-spec =
-    tie.close (tie.spec (λ c κs. search needs) (λ c. search needs) (λ c. search needs) (λ c. search needs)
+    tie.close (tie.spec (λ c κs. search needs) (λ c. refl) (λ c. refl) (λ c. refl)
     (λ c. refused-is _ _ _ (here (as-row (c .before .sized .ensures) (c .if1 .taken))))
     (λ c κs. let e1 = c .before .before .before in tables-fit _ (past (as-row (e1 .before .sized .ensures) (e1 .if1 .left)) none))
-    (λ c κs. search needs) (λ c. search needs) (λ c. search needs) (λ c. search needs) returns-2)
+    (λ c κs. search needs) (λ c. c .before .before .before .before .before .before .five .given) (λ c. c .before .before .before .before .six .given) (λ c. c .before .before .seven .given) returns-2)

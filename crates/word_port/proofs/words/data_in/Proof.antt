@@ -1,12 +1,15 @@
--- `word_port::words::data_in` meets its contract: shut is `refused-is`, open is `given-is`. Assumes nothing.
-use mathlib.Core.Path.{ap, _∙_}
-use Rattle.rows.specs.Rows.{given}
-use Rattle.rows.proofs.Laws.{refused-is, given-is}
-use Rattle.tables.specs.Port.{Tabled}
+-- `word_port::words::data_in` meets its contract: shut is `refused-is`, open is `data-in-given`. Assumes nothing.
+use denote.Ref.{now}
+use mathlib.Core.Path.{refl}
+use Rattle.rows.proofs.Laws.{refused-is}
+use Rattle.tables.specs.Tables.{three}
+use Rattle.tables.specs.Port.{desk}
 use Rattle.rules.specs.Refusals.{answerSaid}
-use Rattle.rules.specs.Families.{wordWritten, wordOf, wordLent}
-use Rattle.rules.specs.Calls.{worded, wordCall}
+use Rattle.rules.specs.Families.{wordLent}
+use Rattle.rules.specs.Calls.{wordCall}
 use Rattle.gates.proofs.Fits.{words-fit}
+use Rattle.gates.proofs.Told.{open-clear, shut-first}
+use Rattle.word_port.proofs.Given.{data-in-given}
 use borrow.Author.Needs.{needs}
 use Rattle.word_port.proofs.words.data_in.Statement.{statement}
 use Rattle.word_port.proofs.words.data_in.Tie as tie
@@ -15,24 +18,23 @@ data-in-requires : tie.Need-data-in-requires
 data-in-requires c κs =
     let e = c .before .before .before .before in
     let g = e .before .before in
-    let fit = words-fit _ _ (rw (e .enum-told .given .1) at (g .word-gate .ensures _ (g .before .before .before .before .sound .ensures))) in
+    let fit = words-fit _ _ (open-clear (e .enum-told .given .1) (g .word-gate .ensures _ (g .before .before .before .before .sound .ensures))) in
     (fit .0 .0, fit .0 .1, fit .0 .2, fit .1)
 
 returns-2 : tie.Need-returns-2
-unfolding wordCall wordOf wordLent answerSaid
+unfolding answerSaid
 returns-2 c =
     let d = c .before .before .before .before .before .before in
     let e = d .before .before .before .before .before in
     let g = e .before .before in
-    let p = g .before .before .before .before .before .before .before .before .before .args .pod in
-    ap (λ (s : Tabled). given (worded (wordWritten s) p)) (d .data-in .ensures)
-    ∙ given-is _ _ _ (rw (e .enum-told .given .1) at (g .word-gate .ensures _ (g .before .before .before .before .sound .ensures)))
+    let a = g .before .before .before .before .before .before .before .before .before .args in
+    data-in-given (a .word) (desk (three (now (a .five)) (now (a .six)) (now (a .seven))) (now (a .load))) (a .pod) (d .data-in .ensures) (open-clear (e .enum-told .given .1) (g .word-gate .ensures _ (g .before .before .before .before .sound .ensures)))
 
 pub data-in-spec : {M : Type 1} → statement M
 unfolding wordCall wordLent answerSaid
 data-in-spec =
     tie.close
-    (tie.spec (λ c κs. search needs) (λ c κs. search needs) (λ c. search needs) (λ c. search needs) data-in-requires (λ c. search needs)
-    (λ c. search needs) (λ c. search needs)
-    (λ c. refused-is _ _ _ (rw (c .before .gate .given .1) at (c .before .before .before .word-gate .ensures _ (c .before .before .before .before .before .before .before .sound .ensures))))
-    (λ c. search needs) (λ c. search needs) (λ c. search needs) returns-2)
+    (tie.spec (λ c κs. search needs) (λ c κs. search needs) (λ c. search needs) (λ c. search needs) data-in-requires (λ c. refl)
+    (λ c. refl) (λ c. refl)
+    (λ c. refused-is _ _ _ (shut-first (c .before .gate .given .1) (c .before .before .before .word-gate .ensures _ (c .before .before .before .before .before .before .before .sound .ensures))))
+    (λ c. c .before .before .before .before .before .five .given) (λ c. c .before .before .before .six .given) (λ c. c .before .seven .given) returns-2)
