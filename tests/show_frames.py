@@ -4,8 +4,9 @@
 Works out the text that the program `show_frames` prints and compares it with that program's stored stdout.
 Prints `show_frames: ok`, or the first line that differs and exits with status 1.
 """
-import os
 import sys
+
+from shown import held
 
 
 def place(frame, where, value):
@@ -68,18 +69,5 @@ def texts():
         yield frames(zeros, 0, min(sent, 15), False, 0)
 
 
-def main():
-    here = os.path.dirname(os.path.abspath(__file__))
-    stored = open(os.path.join(here, "..", "crates", "show_frames", "stdout")).read().split("\n")
-    wanted = list(texts()) + [""]
-    for n in range(max(len(stored), len(wanted))):
-        is_, should = (x[n] if n < len(x) else "nothing" for x in (stored, wanted))
-        if is_ != should:
-            print("show_frames: line %d is '%s', should be '%s'" % (n + 1, is_, should))
-            return 1
-    print("show_frames: ok")
-    return 0
-
-
 if __name__ == "__main__":
-    sys.exit(main())
+    sys.exit(held("show_frames", texts()))

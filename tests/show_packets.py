@@ -5,9 +5,10 @@ Written from document 01 alone. It prints 'show_packets: ok' if the stored outpu
 is the text worked out here, or the first line that differs; the exit status tells the same.
 """
 import binascii
-import os
 import struct
 import sys
+
+from shown import held
 
 CRC_START = 0xFFFF
 
@@ -191,20 +192,5 @@ def lines():
     yield from answer_lines()
 
 
-def main():
-    here = os.path.dirname(os.path.abspath(__file__))
-    with open(os.path.join(here, "..", "crates", "show_packets", "stdout")) as f:
-        stored = f.read().split("\n")
-    expected = list(lines()) + [""]
-    for k in range(max(len(stored), len(expected))):
-        s = stored[k] if k < len(stored) else "(no line)"
-        e = expected[k] if k < len(expected) else "(no line)"
-        if s != e:
-            print("show_packets: line %d: stored '%s', worked out '%s'" % (k + 1, s, e))
-            return 1
-    print("show_packets: ok")
-    return 0
-
-
 if __name__ == "__main__":
-    sys.exit(main())
+    sys.exit(held("show_packets", lines()))

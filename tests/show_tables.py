@@ -3,10 +3,9 @@
 
 With no word, compares them with crates/show_tables/stdout; with the word print, prints them.
 """
-import pathlib
 import sys
 
-STORED = pathlib.Path(__file__).resolve().parent.parent / "crates" / "show_tables" / "stdout"
+from shown import held
 
 # The words of each table, and where a read starts on a port just started.
 SIZES = {5: 64, 6: 128, 7: 64}
@@ -39,26 +38,9 @@ def lines():
             counts[key] = counts.get(key, 0) + 1
     for key in sorted(counts):
         way = "read" if key >= 16384 else "write"
-        yield f"{way} {key // 512 % 32} N {key % 512}: {counts[key]}\n"
-    yield f"accepted {sum(counts.values())} of 65536\n"
-
-
-def main():
-    due = list(lines())
-    if sys.argv[1:] == ["print"]:
-        sys.stdout.write("".join(due))
-        return 0
-    stored = STORED.read_text().splitlines(keepends=True)
-    for number, (line, kept) in enumerate(zip(due, stored), 1):
-        if line != kept:
-            print(f"show_tables: line {number} is stored as {kept!r} and should be {line!r}")
-            return 1
-    if len(due) != len(stored):
-        print(f"show_tables: {len(stored)} lines are stored and {len(due)} are due")
-        return 1
-    print("show_tables: ok")
-    return 0
+        yield f"{way} {key // 512 % 32} N {key % 512}: {counts[key]}"
+    yield f"accepted {sum(counts.values())} of 65536"
 
 
 if __name__ == "__main__":
-    sys.exit(main())
+    sys.exit(held("show_tables", lines()))

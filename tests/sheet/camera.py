@@ -2,7 +2,7 @@
 import random
 import re
 
-from .desk import checks
+from .desk import Part, checks
 from .pages import numbers
 
 BYTES = b"EIGHTY C"
@@ -24,13 +24,11 @@ def letter_of(row):
     return "I" if row[0] == "a byte" else "T"
 
 
-class Camera:
+class Camera(Part):
     """The tables of the camera's side."""
 
     def __init__(self, desk, take, packets):
-        self.desk = desk
-        self.take = take
-        self.packets = packets
+        super().__init__(desk, take, packets)
         self.frames = [take("Bits", "Shows", "In the guide", heading=name) for name in ("AN03", "AN47")]
 
     def all(self):

@@ -88,6 +88,15 @@ def cut(text):
     return text if len(text) <= 90 else text[:60] + " .. " + text[-20:]
 
 
+class Part:
+    """The tables of one part of the sheet."""
+
+    def __init__(self, desk, take, packets):
+        self.desk = desk
+        self.take = take
+        self.packets = packets
+
+
 def checks(desk, *parts):
     """Run checks of tables. One that ends early is one difference, also where a row that it needs is missing or can't be read."""
     for part in parts:

@@ -2,18 +2,13 @@
 import model
 from ports.packets import is_acknowledgement, sealed
 
-from .desk import checks
+from .desk import Part, checks
 from .packets import BLOCKS, VALUES, asked, spelled
 from .pages import number, numbers
 
 
-class Exchanges:
+class Exchanges(Part):
     """The tables of the exchange."""
-
-    def __init__(self, desk, take, packets):
-        self.desk = desk
-        self.take = take
-        self.packets = packets
 
     def all(self):
         """Each table once."""

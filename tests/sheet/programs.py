@@ -9,7 +9,7 @@ import model
 from ports.lines import FORMS, LONGEST
 from ports.packets import sealed
 
-from .desk import checks, run
+from .desk import Part, checks, run
 from .packets import asked
 from .pages import ROOT, Fault, crates, names, number, plain
 from .state import GOOD
@@ -22,13 +22,8 @@ NAMES += [part + store for store in "01" for part in ("limit", "remaining", "old
 NAMES += [part + str(id) for part in ("param", "written") for id in range(1, 13)] + ["place5", "place6", "place7", "address"]
 
 
-class Programs:
+class Programs(Part):
     """The tables of lines and limits."""
-
-    def __init__(self, desk, take, packets):
-        self.desk = desk
-        self.take = take
-        self.packets = packets
 
     def all(self):
         """Each table once."""

@@ -9,7 +9,7 @@ from ports.lines import FORMS
 from ports.packets import sealed
 from ports.words import SIZES, tables_at_start
 
-from .desk import checks
+from .desk import Part, checks
 from .packets import VALUES, asked, spelled
 from .pages import ROOT, names, number
 
@@ -42,13 +42,11 @@ def borrowed(function):
     return ", ".join(dict.fromkeys(THINGS[name] for name in taken if name != "bytes")) or "nothing"
 
 
-class State:
+class State(Part):
     """The tables of calls, of what is lent, and of the state."""
 
     def __init__(self, desk, take, packets):
-        self.desk = desk
-        self.take = take
-        self.packets = packets
+        super().__init__(desk, take, packets)
         self.calls = take("Call", "Function", "Letter", "Lent besides the state", "Refusals, in order", "Gives")
         self.refusals = take("No.", "When", "What to do")
 

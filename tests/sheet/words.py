@@ -5,7 +5,7 @@ import model
 from ports.params import ROWS
 from ports.words import SIZES, tables_at_start
 
-from .desk import checks
+from .desk import Part, checks
 from .packets import VALUES, asked
 from .pages import number, numbers, plain
 
@@ -24,13 +24,8 @@ def odd(word):
     return word if bin(word).count("1") % 2 else word | 0x8000
 
 
-class Words:
+class Words(Part):
     """The tables of parameters and of the word port."""
-
-    def __init__(self, desk, take, packets):
-        self.desk = desk
-        self.take = take
-        self.packets = packets
 
     def all(self):
         """Each table once."""
