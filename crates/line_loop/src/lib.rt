@@ -1,9 +1,10 @@
 // The reading loop of the programs: a line in, a line out.
+mod playing;
 mod turns;
 
 pub use line_answers::Program;
 use line_answers::Standing;
-pub use turns::run;
+pub use playing::play;
 
 // The loop between two pieces: how much of the piece there is, and how many turns are left, none once the input or the output
 // has ended.
