@@ -1,13 +1,13 @@
 // The loop: lines from standard input, answers to standard output, both in large pieces.
-use crate::Between;
-use crate::Program;
 use crate::Reader;
-use crate::Standing;
-use crate::answering::answered;
-use crate::answering::gather;
-use crate::asking::text;
 use libc::STDIN_FILENO;
 use libc::STDOUT_FILENO;
+use line_answers::Between;
+use line_answers::Program;
+use line_answers::Standing;
+use line_answers::answered;
+use line_answers::gather;
+use line_answers::text;
 use line_calls::right_sizes;
 use lines::Cursor;
 use rules::Pod;
@@ -15,7 +15,8 @@ ghost use mathlib.Core.Path.{_≡_};
 ghost use Prim.Native.Nat.{_≤_};
 ghost use lib.ListN.{length};
 ghost use Rattle.rules.specs.State.{freshPod};
-ghost use Rattle.line_loop.specs.Turns.{Within, Fine, Ready};
+ghost use Rattle.line_answers.specs.Turns.{Within, Fine};
+ghost use Rattle.line_loop.specs.Ready.{Ready};
 
 // Writes what is gathered.
 fn flush(out: &[u8; 65536], at: usize) -> bool {

@@ -4,7 +4,8 @@ use native.Mathlib.Omega.{arith}
 use mathlib.Core.Path.{_≡_, sym, subst}
 use lib.ListN.{length, length-take}
 use denote.Ref.{now}
-use Rattle.line_loop.specs.Turns.{Fine, Ready}
+use Rattle.line_answers.specs.Turns.{Fine}
+use Rattle.line_loop.specs.Ready.{Ready}
 use borrow.Author.Needs.{needs}
 use Rattle.line_loop.proofs.turns.run.Statement.{statement}
 use Rattle.line_loop.proofs.turns.run.Tie as tie

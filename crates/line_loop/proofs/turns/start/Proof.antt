@@ -1,7 +1,7 @@
 -- The right sizes are within the arrays.
 use native.Mathlib.Omega.{arith}
 use borrow.Author.Needs.{needs}
-use Rattle.line_loop.proofs.Turning.{within-right}
+use Rattle.line_answers.proofs.Turning.{within-right}
 use Rattle.line_loop.proofs.turns.start.Statement.{statement}
 use Rattle.line_loop.proofs.turns.start.Tie as tie
 

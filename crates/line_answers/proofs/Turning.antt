@@ -36,10 +36,10 @@ use Rattle.lab_lines.specs.Ranges.{rightSize}
 use Rattle.lab_lines.specs.Asked.{changeIn}
 use Rattle.lab_lines.proofs.Inside.{asked-case}
 use Rattle.lab_calls.specs.Own.{sizeSet, sizesSet, isShow, Leaves, ownOf, shownIn}
-use Rattle.line_loop.specs.declared.Between.{Between}
-use Rattle.line_loop.specs.declared.Program.{Program}
-use Rattle.line_loop.specs.Lines.{textOf, askingOf, sizesIf, sizesAfter}
-use Rattle.line_loop.specs.Turns.{Within, TextAnswered, own, call, Stand, AnswersText, FoundAnswered, Turn}
+use Rattle.line_answers.specs.declared.Between.{Between}
+use Rattle.line_answers.specs.declared.Program.{Program}
+use Rattle.line_answers.specs.Lines.{textOf, askingOf, sizesIf, sizesAfter}
+use Rattle.line_answers.specs.Turns.{Within, TextAnswered, own, call, Stand, AnswersText, FoundAnswered, Turn}
 
 -- the cursor goes on
 pub cut-on : (piece : List ℕ) (c : Cursor) → c .from < length piece → c .from < cutOf piece c .cursor .from

@@ -11,7 +11,7 @@ ghost use Prim.Native.Nat.{ℕ, _≤_};
 ghost use lib.ListN.{length};
 ghost use Rattle.lines.specs.Cut.{foundIn};
 ghost use Rattle.line_calls.specs.Calls.{heardLine};
-ghost use Rattle.line_loop.specs.Lines.{textOf, askingOf, ownIn, sizesAfter};
+ghost use Rattle.line_answers.specs.Lines.{textOf, askingOf, ownIn, sizesAfter};
 
 // The text of a line: a part of the piece, or what is held of it. One that is too long is read as an empty one: both are
 // another line.

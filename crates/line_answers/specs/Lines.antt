@@ -13,8 +13,8 @@ use Rattle.line_calls.specs.declared.Sizes.{Sizes}
 use Rattle.line_calls.specs.Calls.{callOf}
 use Rattle.line_calls.specs.Memory.{rightSizes}
 use Rattle.lab_calls.specs.Own.{isOwn}
-use Rattle.line_loop.specs.declared.Program.{Program}
-use Rattle.line_loop.specs.declared.Program.the-variants.{Session, Console, Lab}
+use Rattle.line_answers.specs.declared.Program.{Program}
+use Rattle.line_answers.specs.declared.Program.the-variants.{Session, Console, Lab}
 
 -- the text of a line that was found: a part of the piece, or what is held. A line that is too long is read as an empty one
 unfoldable pub textOf : Found → List ℕ → List ℕ → List ℕ

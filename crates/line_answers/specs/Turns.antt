@@ -18,11 +18,10 @@ use Rattle.line_calls.specs.Memory.{Memory, lentAt}
 use Rattle.line_calls.specs.Promise.{stepOf, LentAnswered}
 use Rattle.lab_calls.specs.declared.Noted.{Noted}
 use Rattle.lab_calls.specs.Own.{ownOf, shownIn, withLoad, OwnAnswered}
-use Rattle.line_loop.specs.declared.Program.{Program}
-use Rattle.line_loop.specs.declared.Between.{Between}
-use Rattle.line_loop.specs.declared.Standing.{Standing}
-use Rattle.line_loop.specs.declared.Reader.{Reader}
-use Rattle.line_loop.specs.Lines.{textOf, askingOf, ownIn, sizesAfter}
+use Rattle.line_answers.specs.declared.Program.{Program}
+use Rattle.line_answers.specs.declared.Between.{Between}
+use Rattle.line_answers.specs.declared.Standing.{Standing}
+use Rattle.line_answers.specs.Lines.{textOf, askingOf, ownIn, sizesAfter}
 
 -- no size is over that of the loop's arrays
 pub record Within (s : Sizes) : Type 0 where
@@ -102,9 +101,3 @@ pub record Fine (s : Standing) (have : ℕ) : Type 0 where
 -- no line is left in the piece, or the output has no room for the longest one
 abbrev pub Spent : Standing → ℕ → Type 0
 Spent s have = (ltb (s .cursor .from) have && leb (s .between .at) 64415) ≡ false
-
--- the loop between two pieces: nothing is gathered
-pub record Ready (d : Reader) : Type 0 where
-  pub fine : Fine (d .standing) (d .have)
-  pub piece : d .have ≤ 65536
-  pub written : d .standing .between .at ≡ 0

@@ -2,9 +2,9 @@
 use native.Mathlib.Omega.{arith}
 use lib.ListN.{length-take, length-drop}
 use borrow.Author.Needs.{needs}
-use Rattle.line_loop.specs.Lines.{textOf}
-use Rattle.line_loop.proofs.asking.text.Statement.{statement}
-use Rattle.line_loop.proofs.asking.text.Tie as tie
+use Rattle.line_answers.specs.Lines.{textOf}
+use Rattle.line_answers.proofs.asking.text.Statement.{statement}
+use Rattle.line_answers.proofs.asking.text.Tie as tie
 
 sub-result : tie.Need-sub-result
 sub-result c = let p = rw (c .before .found .given .1) at (c .before .before .before .before .before .pre .0) in p .0

@@ -10,12 +10,12 @@ use borrow.Author.Tests.{ltb-true, leb-true}
 use Rattle.rows.proofs.Bool.{and-left, and-right}
 use Rattle.lines.specs.declared.Cut.{Cut}
 use Rattle.line_calls.specs.Memory.{memory}
-use Rattle.line_loop.specs.declared.Standing.{Standing}
-use Rattle.line_loop.specs.Turns.{stand, Turns, start, another, Fine}
-use Rattle.line_loop.proofs.Turning.{cut-on, turn-found, turn-more, within-answered}
+use Rattle.line_answers.specs.declared.Standing.{Standing}
+use Rattle.line_answers.specs.Turns.{stand, Turns, start, another, Fine}
+use Rattle.line_answers.proofs.Turning.{cut-on, turn-found, turn-more, within-answered}
 use borrow.Author.Needs.{needs}
-use Rattle.line_loop.proofs.answering.gather.Statement.{statement}
-use Rattle.line_loop.proofs.answering.gather.Tie as tie
+use Rattle.line_answers.proofs.answering.gather.Statement.{statement}
+use Rattle.line_answers.proofs.answering.gather.Tie as tie
 
 abbrev Inv-loop : tie.InvT-loop
 Inv-loop program piece line₀ bytes₀ words₀ room₀ priority₀ ordinary₀ five₀ six₀ seven₀ load₀ out₀ cursor₀ between₀ line bytes words room priority ordinary five six seven load out cursor between =

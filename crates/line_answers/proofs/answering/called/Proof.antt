@@ -1,8 +1,8 @@
 -- What was asked is answered.
 use Rattle.answers.proofs.OneLine.{one-line}
 use borrow.Author.Needs.{needs}
-use Rattle.line_loop.proofs.answering.called.Statement.{statement}
-use Rattle.line_loop.proofs.answering.called.Tie as tie
+use Rattle.line_answers.proofs.answering.called.Statement.{statement}
+use Rattle.line_answers.proofs.answering.called.Tie as tie
 
 returns : tie.Need-returns
 returns c =

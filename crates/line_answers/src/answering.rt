@@ -13,7 +13,7 @@ use lines::next_line;
 ghost use Prim.Native.Nat.{_+_, _≤_};
 ghost use lib.ListN.{length};
 ghost use Rattle.line_calls.specs.Memory.{memory};
-ghost use Rattle.line_loop.specs.Turns.{Within, CallAnswered, TextAnswered, stand, Turns, Fine, Spent};
+ghost use Rattle.line_answers.specs.Turns.{Within, CallAnswered, TextAnswered, stand, Turns, Fine, Spent};
 
 // The longest line of output has 1,121 characters: with fewer left, what is gathered is written first.
 const ENOUGH: usize = 64415;

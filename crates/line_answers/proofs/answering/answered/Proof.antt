@@ -2,9 +2,9 @@
 use mathlib.Core.Path.{refl, sym, _∙_}
 use borrow.Author.Needs.{needs}
 use Rattle.lab_calls.proofs.OneLine.{own-one}
-use Rattle.line_loop.specs.Turns.{own, call}
-use Rattle.line_loop.proofs.answering.answered.Statement.{statement}
-use Rattle.line_loop.proofs.answering.answered.Tie as tie
+use Rattle.line_answers.specs.Turns.{own, call}
+use Rattle.line_answers.proofs.answering.answered.Statement.{statement}
+use Rattle.line_answers.proofs.answering.answered.Tie as tie
 
 returns : tie.Need-returns
 returns c =

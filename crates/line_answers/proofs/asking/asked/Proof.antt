@@ -4,10 +4,10 @@ use native.Mathlib.Omega.{arith}
 use lib.ListN.{length}
 use denote.Ref.{now}
 use borrow.Author.Needs.{needs}
-use Rattle.line_loop.specs.Lines.{askingOf}
-use Rattle.line_loop.proofs.Heard.{packet-heard, line-heard}
-use Rattle.line_loop.proofs.asking.asked.Statement.{statement}
-use Rattle.line_loop.proofs.asking.asked.Tie as tie
+use Rattle.line_answers.specs.Lines.{askingOf}
+use Rattle.line_answers.proofs.Heard.{packet-heard, line-heard}
+use Rattle.line_answers.proofs.asking.asked.Statement.{statement}
+use Rattle.line_answers.proofs.asking.asked.Tie as tie
 
 returns : tie.Need-returns
 unfolding askingOf

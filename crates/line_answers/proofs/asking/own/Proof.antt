@@ -1,8 +1,8 @@
 -- By the program.
 use borrow.Author.Needs.{needs}
-use Rattle.line_loop.specs.Lines.{ownIn}
-use Rattle.line_loop.proofs.asking.own.Statement.{statement}
-use Rattle.line_loop.proofs.asking.own.Tie as tie
+use Rattle.line_answers.specs.Lines.{ownIn}
+use Rattle.line_answers.proofs.asking.own.Statement.{statement}
+use Rattle.line_answers.proofs.asking.own.Tie as tie
 
 pub own-spec : {M : Type 1} → statement M
 unfolding ownIn
