@@ -1,5 +1,6 @@
 -- The table words, by computation.
 -- Assumes nothing.
+use Prim.Native.Nat.{ℕ}
 use mathlib.Core.Path.{refl}
 use mathlib.Core.List.{flatten}
 use lib.Count.{ones}
@@ -14,7 +15,7 @@ use Rattle.params.specs.Rules.{inRows, soundParams, startParams}
 use Rattle.blocks.specs.Stores.{storeSized, soundRing}
 use Rattle.tables.specs.Bounds.{soundPlaces, soundTransfer, soundWords}
 use Rattle.orders.specs.Command.{oddOnes, partsOf, orderOf, orderHeard}
-use Rattle.tables.specs.Port.{startWords, closeOf, readOpenedAt, readOpened, orderObeyed, tablesAfter, commandOf, wrongWay, loadRight, storedIn, loadJudged, loadOf, wordTaken, dataInOf, readWord, readNext, wordGiven, dataOutOf, statusOf}
+use Rattle.tables.specs.Port.{startWords, closeOf, readOpenedAt, readOpened, restarted, orderObeyed, tablesAfter, commandOf, wrongWay, loadRight, storedIn, loadJudged, loadOf, wordTaken, dataInOf, readWord, readNext, wordGiven, dataOutOf, statusOf}
 use Rattle.tables.specs.Tables.{listed, startTable, tablesSized}
 use Rattle.pipe.specs.Input.{emptyInput, freshInput, soundInput}
 use Rattle.pipe.specs.Pipe.{freshPipe, soundPipe}
@@ -23,9 +24,16 @@ use Rattle.rules.specs.Families.{wordOf, wordLent}
 use Rattle.rules.specs.Obey.{checksOf, initialisedPod, doneBy, obeyOf}
 use Rattle.rules.specs.State.{freshFields, freshPod, restful, soundPod}
 use Rattle.rules.specs.World.{step, final, tells}
-use Rattle.examples.specs.Shown.{justInitialised}
-use Rattle.examples.specs.Words.{WordsComputed}
+use Rattle.examples.specs.Shown.{justInitialised, AsExpected}
+use Rattle.examples.specs.Words.{words, closings, WordsComputed}
 
-pub all-words : WordsComputed
+told-words : (x y z : ℕ) → AsExpected (words x y z)
 unfolding flatten ones ran poly leaving bitIn bits bitsIn crcFrom crcOf withCrc answerOf fieldBytes bodyOf commandBytes laidOut numbersAt fieldsOf fieldsIn fieldsBounded findIn listedIn codeRow isCode commandPlace commandRow highFirst numberOf numberAt crcRight acknowledges packetRead inRows soundParams startParams storeSized soundRing soundPlaces soundTransfer soundWords oddOnes partsOf orderOf orderHeard startWords closeOf readOpenedAt readOpened orderObeyed tablesAfter commandOf wrongWay loadRight storedIn loadJudged loadOf wordTaken dataInOf readWord readNext wordGiven dataOutOf statusOf listed startTable tablesSized emptyInput freshInput soundInput freshPipe soundPipe powerCall packetHeard meantBody replyBytes spokenBytes answered packetCall wordCall wordOf wordLent checksOf initialisedPod doneBy obeyOf justInitialised freshFields freshPod restful soundPod step final tells
-all-words x y z = refl
+told-words x y z = refl
+
+told-closings : (x : ℕ) → AsExpected (closings x)
+unfolding flatten ones ran poly leaving bitIn bits bitsIn crcFrom crcOf withCrc answerOf fieldBytes bodyOf commandBytes laidOut numbersAt fieldsOf fieldsIn fieldsBounded findIn listedIn codeRow isCode commandPlace commandRow highFirst numberOf numberAt crcRight acknowledges packetRead inRows soundParams startParams storeSized soundRing soundPlaces soundTransfer soundWords oddOnes partsOf orderOf orderHeard startWords closeOf readOpenedAt readOpened restarted orderObeyed tablesAfter commandOf wrongWay loadRight storedIn loadJudged loadOf wordTaken dataInOf readWord readNext wordGiven dataOutOf statusOf listed startTable tablesSized emptyInput freshInput soundInput freshPipe soundPipe powerCall packetHeard meantBody replyBytes spokenBytes answered packetCall wordCall wordOf wordLent checksOf initialisedPod doneBy obeyOf justInitialised freshFields freshPod restful soundPod step final tells
+told-closings x = refl
+
+pub all-words : (x y z : ℕ) → WordsComputed x y z
+all-words x y z = record { words = told-words x y z; closings = told-closings x }

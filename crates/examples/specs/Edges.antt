@@ -9,7 +9,7 @@ use Rattle.blocks.specs.declared.Store.the-variants.{Priority, Ordinary}
 use Rattle.tables.specs.Tables.{three}
 use Rattle.rules.specs.State.{withRing, withPipe, withTables}
 use Rattle.rules.specs.Refusals.{Giving}
-use Rattle.rules.specs.Families.{command, status, byte, deadline, pipe}
+use Rattle.rules.specs.Families.{command, dataIn, dataOut, status, byte, timeout, deadline, pipe}
 use Rattle.rules.specs.World.{World, withPod, Call, power, packet, put, word, lone, samples, step}
 use Rattle.rules.specs.Demands.{justPowered}
 use Rattle.examples.specs.Shown.{justInitialised, ComputedLine, line, AsExpected}
@@ -50,9 +50,11 @@ edges =
     -- 1: "answer room under 260 bytes"
     ∷ line (refusalIn justPowered (packet [] (replicate 259 0))) (1 ∷ [])
     ∷ line (refusalIn justPowered (packet [] (replicate 260 0))) []
-    -- 2: power and a command word are lent the tables, the status word and the deadline are not
+    -- 2: power, a command word and the data words are lent the tables, the status word and the deadline are not
     ∷ line (refusalIn (bare justPowered) power) (2 ∷ [])
     ∷ line (refusalIn (bare justPowered) (word (command 0))) (2 ∷ [])
+    ∷ line (refusalIn (bare justPowered) (word (dataIn 0))) (2 ∷ [])
+    ∷ line (refusalIn (bare justPowered) (word dataOut)) (2 ∷ [])
     ∷ line (refusalIn (bare justPowered) (word status)) []
     ∷ line (refusalIn (bare justPowered) (lone deadline)) []
     -- 3: every call but power on judges the state
@@ -72,7 +74,9 @@ edges =
     ∷ line (refusalIn justPowered (samples 31 (replicate 128 1024))) (5 ∷ [])
     ∷ line (refusalIn justPowered (samples 31 (replicate 128 1023))) []
     -- 6: "block or pipe call while the pod is not initialised"
+    ∷ line (refusalIn justPowered (lone (pipe timeout))) (6 ∷ [])
     ∷ line (refusalIn justInitialised (lone (pipe (byte 0)))) []
+    ∷ line (refusalIn justInitialised (lone (pipe timeout))) []
     -- 7: "that store is full", of 16 or of 128 blocks
     ∷ line (refusalIn (holding Priority 15 justInitialised) (put Priority (replicate 256 0))) []
     ∷ line (refusalIn (holding Ordinary 128 justInitialised) (put Ordinary (replicate 256 0))) (7 ∷ [])

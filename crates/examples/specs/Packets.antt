@@ -5,13 +5,15 @@ use mathlib.Core.Path.{_≡_}
 use mathlib.Core.List.{List, [], _∷_, _++_, map}
 use lib.ListN.{replicate}
 use Rattle.rows.specs.Rows.{gave}
-use Rattle.blocks.specs.declared.Store.the-variants.{Priority}
+use Rattle.blocks.specs.declared.Store.the-variants.{Priority, Ordinary}
 use Rattle.packets.specs.declared.Fields.{Fields}
 use Rattle.rules.specs.State.{freshPod}
 use Rattle.rules.specs.Refusals.{done}
-use Rattle.rules.specs.World.{World, world, power, packet, told, next, tells}
-use Rattle.examples.specs.Shown.{justInitialised}
-use Rattle.examples.specs.Computed.{TalkTurn, asks, brings, dusty}
+use Rattle.rules.specs.Families.{status, byte, timeout, deadline, pipe}
+use Rattle.rules.specs.World.{World, world, Call, power, packet, put, word, lone, samples, told, next, final, tells}
+use Rattle.rules.specs.Kept.{fieldsListed}
+use Rattle.examples.specs.Shown.{justInitialised, openAfter, asksValue, ComputedLine, line, AsExpected}
+use Rattle.examples.specs.Computed.{sentAfter, bytesIn, TalkTurn, asks, brings, dusty}
 
 -- a world tells what each turn expects
 abbrev pub Talks : World → List TalkTurn → Type 0
@@ -94,8 +96,48 @@ abbrev pub updated : Fields
 updated =
     record { mode = 2; flags = 0xABCD; seconds = 7; milliseconds = 999; prioritylimit = 3; priorityremaining = 1; memorylimit = 5; memoryremaining = 4; poll = 60000 }
 
+-- "Update takes the fields and keeps the rest": parameters and their marks, blocks
+abbrev pub keeps : List TalkTurn
+keeps =
+    values
+    ++ (brings Priority 0x11
+    ∷ update
+    ∷ asks (0x94 ∷ 0x01 ∷ 0x04 ∷ 0x1B ∷ 0xD0 ∷ []) (0x94 ∷ 0x01 ∷ 0x04 ∷ 0x00 ∷ 0x00 ∷ 0xEA ∷ 0x60 ∷ 0xF3 ∷ 0xF3 ∷ [])
+    ∷ asks (0x91 ∷ 0x01 ∷ 0x26 ∷ 0xF4 ∷ [])
+    (0x91 ∷ 0x01 ∷ 0x02 ∷ 0xAB ∷ 0xCD ∷ 0x00 ∷ 0x01 ∷ replicate 5 0 ++ (0x02 ∷ 0x03 ∷ 0x06 ∷ 0x07 ∷ 0x00 ∷ 0x00 ∷ 0x00 ∷ 0x00 ∷ 0xED ∷ 0x99 ∷ []))
+    ∷ [])
+
+-- a block of each store brought, sent and acknowledged
+abbrev pub fetched : List Call
+fetched =
+    map (λ (t : TalkTurn). t .call)
+    (update
+    ∷ brings Priority 0x11
+    ∷ asks (0x95 ∷ 0x01 ∷ 0xEA ∷ 0x30 ∷ []) []
+    ∷ asks (0x95 ∷ 0x01 ∷ 0x7E ∷ 0xF3 ∷ 0x3D ∷ []) []
+    ∷ brings Ordinary 0x44
+    ∷ asks (0x96 ∷ 0x01 ∷ 0xBF ∷ 0x63 ∷ []) []
+    ∷ asks (0x96 ∷ 0x01 ∷ 0x7E ∷ 0xAA ∷ 0x6D ∷ []) []
+    ∷ [])
+
+-- a pipe call, a table word, samples, a put and an empty packet
+abbrev pub beside : List Call
+beside =
+    lone (pipe (byte 9)) ∷ lone (pipe timeout) ∷ word status ∷ samples 0 (replicate 128 0) ∷ put Priority (replicate 256 7) ∷ packet [] (replicate 260 0) ∷ []
+
+-- what is open after a read of a parameter: "closes an open exchange .. So does the deadline call", and none of those; "its remaining
+-- falls by 1", and no other field changes; an Update keeps gathered bytes
+abbrev pub exchanges : List ComputedLine
+exchanges =
+    line (openAfter (asksValue ++ (lone deadline ∷ []))) (0 ∷ [])
+    ∷ line (openAfter (asksValue ++ beside)) (0x94 ∷ [])
+    ∷ line (fieldsListed (final justInitialised fetched .pod .fields)) (2 ∷ 0xABCD ∷ 7 ∷ 999 ∷ 3 ∷ 0 ∷ 5 ∷ 3 ∷ 60000 ∷ [])
+    ∷ line (sentAfter (bytesIn (1 ∷ 2 ∷ []) ++ (update .call ∷ [])) timeout) (1 ∷ 2 ∷ [])
+    ∷ []
+
 pub record Packets : Type 0 where
   pub asleep : Talks (world freshPod dusty) checks
-  pub parameters : Talks justInitialised values
+  pub parameters : Talks justInitialised keeps
   pub updates : Talks justInitialised (unfit ∷ update ∷ [])
   pub fields : next justInitialised (update .call) .pod .fields ≡ updated
+  pub exchanges : AsExpected exchanges

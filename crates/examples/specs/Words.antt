@@ -6,7 +6,7 @@ use lib.ListN.{replicate}
 use Rattle.tables.specs.Tables.{listed}
 use Rattle.rules.specs.World.{Call, final}
 use Rattle.examples.specs.Shown.{justInitialised, wordsOut, statusAfter, fiveAfter, order, loading, reading, load, read, ComputedLine, line, AsExpected}
-use Rattle.examples.specs.Computed.{shows}
+use Rattle.examples.specs.Computed.{off, shows}
 
 -- table 6 after some calls, and table 7
 abbrev pub sixAfter : List Call → List ℕ
@@ -48,5 +48,38 @@ words x y z =
     ∷ line (fiveAfter (order 0x8A05 ++ loading (5 ∷ 63 ∷ 2 ∷ x ∷ y ∷ [])) ++ statusAfter (order 0x8A05 ++ loading (5 ∷ 63 ∷ 2 ∷ x ∷ y ∷ []))) (replicate 64 0 ++ (2 ∷ []))
     ∷ []
 
-abbrev pub WordsComputed : Type 0
-WordsComputed = (x y z : ℕ) → AsExpected (words x y z)
+-- and what each word closes, keeps and sets
+abbrev pub closings : ℕ → List ComputedLine
+closings x =
+    -- "word 1 right, word 3 right", all of each word; and all of an address, 0103
+    line (fiveAfter (load 0x105 63 1 x) ++ statusAfter (load 0x105 63 1 x)) (replicate 64 0 ++ (2 ∷ []))
+    ∷ line (fiveAfter (load 5 63 0x101 x) ++ statusAfter (load 5 63 0x101 x)) (replicate 64 0 ++ (2 ∷ []))
+    ∷ line (wordsOut (order 0x8201 ++ loading (0x103 ∷ []) ++ order 0xCA04 ++ shows)) (2 ∷ [])
+    -- "with no transfer that way sets message error and closes any other transfer": none open, an address, a load, a read
+    ∷ line
+    (wordsOut (loading (7 ∷ []) ++ shows ++ reading 1 ++ shows ++ order 0x8201 ++ reading 1 ++ shows ++ order 0x8000 ++ shows))
+    (2 ∷ 0 ∷ 2 ∷ 0 ∷ 2 ∷ 0 ∷ [])
+    ∷ line
+    (wordsOut (order 0x0A04 ++ reading 1 ++ shows ++ order 0x8000 ++ shows ++ order 0xCA04 ++ loading (7 ∷ []) ++ shows ++ reading 1 ++ shows))
+    (0 ∷ 2 ∷ 0 ∷ 2 ∷ 0 ∷ 2 ∷ [])
+    -- "tables to their starts, read places 0, no address given": no error, but where a read is cut, which is then closed
+    ∷ line (wordsOut (read ++ order 0x8201 ++ loading (3 ∷ []) ++ order 0x0001 ++ shows ++ read)) (5 ∷ 0 ∷ 1 ∷ 0 ∷ 0 ∷ 5 ∷ 0 ∷ 1 ∷ 0 ∷ [])
+    ∷ line (wordsOut (order 0xCA04 ++ order 0x0001 ++ shows ++ reading 1 ++ shows)) (2 ∷ 0 ∷ 2 ∷ [])
+    -- a word that is not accepted closes, and keeps tables, places and a given address
+    ∷ line (wordsOut (order 0xCA04 ++ order 0x0000 ++ shows ++ reading 1 ++ shows)) (2 ∷ 0 ∷ 2 ∷ [])
+    ∷ line (fiveAfter (load 5 63 1 x ++ order 0x0000)) (replicate 63 0 ++ (x ∷ []))
+    ∷ line (wordsOut (load 5 3 1 x ++ order 0x8201 ++ loading (3 ∷ []) ++ order 0x0000 ++ shows ++ read)) (2 ∷ 5 ∷ 3 ∷ 1 ∷ x ∷ [])
+    -- "used up by an accepted read" alone: kept by a load, by another 8201 that is cut, by a read that would pass the end
+    ∷ line (wordsOut (order 0x8201 ++ loading (3 ∷ []) ++ load 5 3 1 x ++ read)) (5 ∷ 3 ∷ 1 ∷ x ∷ [])
+    ∷ line (wordsOut (order 0x8201 ++ loading (3 ∷ []) ++ order 0x8201 ++ order 0x8000 ++ read)) (5 ∷ 3 ∷ 1 ∷ 0 ∷ [])
+    ∷ line (wordsOut (order 0x8201 ++ loading (64 ∷ []) ++ order 0xCA04 ++ shows ++ order 0xCA04 ++ shows)) (2 ∷ 2 ∷ [])
+    -- a read place moves by reads alone
+    ∷ line (wordsOut (read ++ order 0x0000 ++ order 0x8201 ++ order 0x8000 ++ load 5 3 1 x ++ read)) (5 ∷ 0 ∷ 1 ∷ 0 ∷ 5 ∷ 1 ∷ 1 ∷ 0 ∷ [])
+    -- while asleep 0001 is not accepted: the Shutdown's answer has 5 bytes
+    ∷ line (wordsOut (off ++ order 0x0001 ++ shows)) (5 ∷ 2 ∷ [])
+    ∷ line (fiveAfter (load 5 63 1 x ++ off ++ order 0x0001)) (replicate 63 0 ++ (x ∷ []))
+    ∷ []
+
+pub record WordsComputed (x y z : ℕ) : Type 0 where
+  pub words : AsExpected (words x y z)
+  pub closings : AsExpected (closings x)
