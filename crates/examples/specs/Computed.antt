@@ -62,7 +62,7 @@ computed x y z =
     (2 ∷ 2 ∷ 2 ∷ 2 ∷ 2 ∷ [])
     -- and 8000 while asleep: the Shutdown's answer has 5 bytes, and it sets none itself
     ∷ line (wordsOut (off ++ shows ++ order 0x8000 ++ shows)) (5 ∷ 0 ∷ 2 ∷ [])
-    -- ReadsZero: with nothing open; PlacesOnly: a given address goes before a place that has moved
+    -- ReadsShown: with nothing open; PlacesOnly: a given address goes before a place that has moved
     ∷ line (wordsOut (reading 1 ++ read ++ order 0x8201 ++ loading (3 ∷ []) ++ read)) (0 ∷ 5 ∷ 0 ∷ 1 ∷ 0 ∷ 5 ∷ 3 ∷ 1 ∷ 0 ∷ [])
     -- FramesAreHistory: awake; with a byte gathered, a deadline past; and both asleep
     ∷ line (framesShown [] 0) (framesWith 0 4 0)

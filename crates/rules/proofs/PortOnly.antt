@@ -31,7 +31,7 @@ event-port w _ _ (began x a k) = refl
 event-port w _ _ closed = refl
 event-port w _ _ (acknowledged first one k) = acknowledged-untouched first one (w .pod) .words
 event-port w _ _ (shelved s b k) = refl
-event-port w _ _ (spoken c k) = refl
+event-port w _ _ (spoken c k) = as-heard c (w .pod .initialised) (w .pod .words) (deskIn (w .lent)) .words
 event-port w _ _ (touched t) = refl
 
 pub port-only : PortOnly

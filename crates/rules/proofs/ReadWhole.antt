@@ -107,7 +107,7 @@ module _ (h : Header) (at : ℕ) (places : Places) where
       (call-along w k (which c) (not-true (and-left a b e)) (omega arith) (sound-next w c (o .fit .sound)) o))
 
 -- the word of a read that the pod gives is that of the paper
-word-shown : (h : Header) (at : ℕ) (s : Three) (k : ℕ) → readWord h at (wordsOf (h .table) s) k ≡ wordShown h at s k
+pub word-shown : (h : Header) (at : ℕ) (s : Three) (k : ℕ) → readWord h at (wordsOf (h .table) s) k ≡ wordShown h at s k
 unfolding wordShown
 word-shown h at s zero = read-first h at (wordsOf (h .table) s)
 word-shown h at s (suc zero) = read-second h at (wordsOf (h .table) s)

@@ -1,4 +1,4 @@
--- Demand 2: which transfer a table word leaves open, and what a data word reads as with no read open.
+-- Demand 2: which transfer a table word leaves open, and what a data word reads as.
 -- Assumes nothing.
 use mathlib.Core.Path.{_≡_, refl, ap}
 use mathlib.Core.Bool.{false}
@@ -13,28 +13,29 @@ use Rattle.tables.specs.Port.{wordGiven, dataOutOf}
 use Rattle.rules.specs.Refusals.{reads}
 use Rattle.rules.specs.Families.{dataOut, wordOf}
 use Rattle.rules.specs.World.{World, word, Stepped, told, isRefused}
-use Rattle.rules.specs.Port.{isRead}
-use Rattle.rules.specs.Demands.{TransferOnly, ReadsZero}
+use Rattle.rules.specs.Transfers.{readAs}
+use Rattle.rules.specs.Demands.{TransferOnly, ReadsShown}
 use Rattle.rules.proofs.Happens.{Happens, by-rows, by-word, happens}
 use Rattle.rules.proofs.PortOnly.{word-leaves}
+use Rattle.rules.proofs.ReadWhole.{word-shown}
 
 pub transfer-only : TransferOnly
 transfer-only w c a = ap (λ (x : Words). x .transfer) (word-leaves w c a)
 
--- ---- with no read open
+-- ---- a data word read
 
-gives-zero : (t : Transfer) (w : Words) (s : Three) → isRead t ≡ false → wordGiven t w s .word ≡ 0
+gives-as : (t : Transfer) (w : Words) (s : Three) → wordGiven t w s .word ≡ readAs t s
 unfolding wordGiven
-gives-zero Idle w s e = refl
-gives-zero Address w s e = refl
-gives-zero (Load h k) w s e = refl
-gives-zero (Read h k at) w s e = never refl e
+gives-as Idle w s = refl
+gives-as Address w s = refl
+gives-as (Load h k) w s = refl
+gives-as (Read h k at) w s = word-shown h at s k
 
-zero-told : {w : World} {s : Stepped} → Happens w (word dataOut) s → isRefused (s .told .said) ≡ false
-    → isRead (w .pod .words .transfer) ≡ false → s .told ≡ told (gave (reads 0)) []
+read-told : {w : World} {s : Stepped} → Happens w (word dataOut) s → isRefused (s .told .said) ≡ false
+    → s .told ≡ told (gave (reads (readAs (w .pod .words .transfer) (w .lent .tables)))) []
 unfolding wordOf dataOutOf
-zero-told (by-rows c n f) a e = never refl a
-zero-told {w} (by-word c k) a e = rw (gives-zero (w .pod .words .transfer) (w .pod .words) (w .lent .tables) e) refl
+read-told (by-rows c n f) a = never refl a
+read-told {w} (by-word c k) a = rw (gives-as (w .pod .words .transfer) (w .pod .words) (w .lent .tables)) refl
 
-pub reads-zero : ReadsZero
-reads-zero w a e = zero-told (happens w (word dataOut)) (not-true a) e
+pub reads-shown : ReadsShown
+reads-shown w a = read-told (happens w (word dataOut)) (not-true a)

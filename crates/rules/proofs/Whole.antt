@@ -10,7 +10,7 @@ use Rattle.rules.proofs.ReadWhole.{read-whole, read-ends, read-moves}
 use Rattle.rules.proofs.NoOther.{tables-only}
 use Rattle.rules.proofs.MessageError.{message-error, status-word-shows}
 use Rattle.rules.proofs.PortOnly.{port-only, places-only}
-use Rattle.rules.proofs.TransferOnly.{transfer-only, reads-zero}
+use Rattle.rules.proofs.TransferOnly.{transfer-only, reads-shown}
 use Rattle.rules.proofs.PortHistory.{port-is-history}
 use Rattle.rules.proofs.Checked.{packet-answered, opens-exactly, damage, damage-answered, error-unchanged}
 use Rattle.rules.proofs.Judged.{checks-exactly}
@@ -43,7 +43,7 @@ whole =
       places-only = places-only;
       transfer-only = transfer-only;
       port-is-history = port-is-history;
-      reads-zero = reads-zero;
+      reads-shown = reads-shown;
       packet-answered = packet-answered;
       checks-exactly = checks-exactly;
       opens-exactly = opens-exactly;

@@ -35,8 +35,8 @@ use Rattle.rules.specs.Replies.{awakeFrom, waitingFrom, statusFrom, read
 use Rattle.rules.specs.Checks.{Succeeds, Answers, damaged}
 use Rattle.rules.specs.Judged.{checkOf}
 use Rattle.rules.specs.Numbered.{rowHolds}
-use Rattle.rules.specs.Transfers.{cuts, cutsLoad, writtenIn, othersIn, opened, loaded, Loads, Loading, wordShown, readsIn, Reads, errorBy, tablesBy}
-use Rattle.rules.specs.Port.{portBy, heardIn, isRead, ported, portedBy}
+use Rattle.rules.specs.Transfers.{cuts, cutsLoad, writtenIn, othersIn, opened, loaded, Loads, Loading, wordShown, readAs, readsIn, Reads, errorBy, tablesBy}
+use Rattle.rules.specs.Port.{portBy, heardIn, ported, portedBy}
 use Rattle.rules.specs.Pairs.{Accepts, ShutsDown, keptIn, seenIn, sizesIn, Asleep, Moment, pastOf}
 
 -- ---- 1. "Any packet, word, sample or state may arrive. Each is answered, or refused by a number in document 01"
@@ -145,11 +145,11 @@ PortIsHistory =
     (l : Lent) (cs : List Call)
     → final (powered l) cs .pod .words ≡ fold portedBy (ported false startWords (l .load)) (events (powered l) cs) .words
 
--- "A data word .. read with no transfer that way .. reads as 0"
-abbrev pub ReadsZero : Type 0
-ReadsZero =
-    (w : World) → isAnswered w (word dataOut) ≡ true → isRead (w .pod .words .transfer) ≡ false
-    → step w (word dataOut) .told ≡ told (gave (reads 0)) []
+-- what a data word read gives in any world, by the open transfer
+abbrev pub ReadsShown : Type 0
+ReadsShown =
+    (w : World) → isAnswered w (word dataOut) ≡ true
+    → step w (word dataOut) .told ≡ told (gave (reads (readAs (w .pod .words .transfer) (w .lent .tables)))) []
 
 -- "The status word is 2 with message error, else 0"
 abbrev pub StatusWordShows : Type 0

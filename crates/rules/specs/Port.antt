@@ -25,19 +25,12 @@ portBy (opensExchange x) on w d = w
 portBy closesExchange on w d = w
 portBy (hearsAcknowledgement first one) on w d = w
 portBy (puts s b) on w d = w
-portBy (words c) on w d = wordOf c on w d .pod
+portBy (words c) on w d = wordHeard c on w (d .load) .words
 portBy (touches t l) on w d = w
 
 -- what a table word leaves in a world
 abbrev pub heardIn : World → WordCall → Heard
 heardIn w c = wordHeard c (w .pod .initialised) (w .pod .words) (w .lent .load)
-
--- a transfer that way, for a data word read
-abbrev pub isRead : Transfer → Bool
-isRead Idle = false
-isRead Address = false
-isRead (Load h k) = false
-isRead (Read h k at) = true
 
 -- ---- by a history
 

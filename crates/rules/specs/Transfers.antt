@@ -10,7 +10,8 @@ use lib.Seq.{sets}
 use Rattle.tables.specs.declared.Header.{Header}
 use Rattle.tables.specs.declared.Words.{Words}
 use Rattle.orders.specs.declared.Order.the-variants.{Writing, Reading}
-use Rattle.tables.specs.declared.Transfer.the-variants.{Idle, Load}
+use Rattle.tables.specs.declared.Transfer.{Transfer}
+use Rattle.tables.specs.declared.Transfer.the-variants.{Idle, Address, Load, Read}
 use Rattle.tables.specs.Tables.{Three, starts, tablesSized, wordsOf, readPlace}
 use Rattle.orders.specs.Command.{tableNumber, orderHeard}
 use Rattle.tables.specs.Port.{Desk, desk, dataCount, fits, isOpen, beginsAt, closeOf, withTransfer, withError, loadRight}
@@ -122,6 +123,13 @@ wordShown h at s k =
     (cond (eqb k 1) at
     (cond (eqb k 2) (h .n - 3)
     (getD (wordsOf (h .table) s) (at + (k - 3)) 0)))
+
+-- what a data word reads as: "with no transfer that way .. reads as 0"
+abbrev pub readAs : Transfer → Three → ℕ
+readAs Idle s = 0
+readAs Address s = 0
+readAs (Load h k) s = 0
+readAs (Read h k at) s = wordShown h at s k
 
 -- from its command word x on, whatever calls cs come in between that do not close it, fewer than N words being read
 pub record Reads (w : World) (x : ℕ) (h : Header) (at : ℕ) (cs : List Call) : Type 0 where

@@ -1,6 +1,6 @@
 -- All that the owner asked for, in one record: proofs/Whole.antt has its one value.
 -- Assumes nothing.
-use Rattle.rules.specs.Demands.{AlwaysAnswered, LowestFirst, RowsExactly, RefusedUnchanged, KeptSound, LoadWhole, LoadCut, ReadWhole, ReadEnds, ReadMoves, TablesOnly, MessageError, StatusWordShows, PortOnly, PlacesOnly, PacketAnswered, ChecksExactly, OpensExactly, Damage, DamageAnswered, ErrorUnchanged, BlocksAreHistory, ReceiveIsHistory, StatusIsHistory, ReadIsWritten, PipeIsHistory, FramesAreHistory, NoTrace, AsFromPower, NoTracePast, AnswerAlike, AsleepFromPower, AsleepFromShutdown, TransferOnly, PortIsHistory, ReadsZero}
+use Rattle.rules.specs.Demands.{AlwaysAnswered, LowestFirst, RowsExactly, RefusedUnchanged, KeptSound, LoadWhole, LoadCut, ReadWhole, ReadEnds, ReadMoves, TablesOnly, MessageError, StatusWordShows, PortOnly, PlacesOnly, PacketAnswered, ChecksExactly, OpensExactly, Damage, DamageAnswered, ErrorUnchanged, BlocksAreHistory, ReceiveIsHistory, StatusIsHistory, ReadIsWritten, PipeIsHistory, FramesAreHistory, NoTrace, AsFromPower, NoTracePast, AnswerAlike, AsleepFromPower, AsleepFromShutdown, TransferOnly, PortIsHistory, ReadsShown}
 use Rattle.rules.specs.Kept.{AwakeIsHistory, FieldsAreHistory, ExchangeIsHistory, ParamsAreHistory, MarksAreHistory, DropGuarded, FreshIs}
 use Rattle.rules.specs.Said.{SaysDone}
 
@@ -25,7 +25,7 @@ pub record Whole : Type 0 where
   pub places-only : PlacesOnly
   pub transfer-only : TransferOnly
   pub port-is-history : PortIsHistory
-  pub reads-zero : ReadsZero
+  pub reads-shown : ReadsShown
   pub packet-answered : PacketAnswered
   pub checks-exactly : ChecksExactly
   pub opens-exactly : OpensExactly
