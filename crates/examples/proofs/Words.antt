@@ -35,5 +35,5 @@ told-closings : (x : ℕ) → AsExpected (closings x)
 unfolding flatten ones ran poly leaving bitIn bits bitsIn crcFrom crcOf withCrc answerOf fieldBytes bodyOf commandBytes laidOut numbersAt fieldsOf fieldsIn fieldsBounded findIn listedIn codeRow isCode commandPlace commandRow highFirst numberOf numberAt crcRight acknowledges packetRead inRows soundParams startParams storeSized soundRing soundPlaces soundTransfer soundWords oddOnes partsOf orderOf orderHeard startWords closeOf readOpenedAt readOpened restarted orderObeyed tablesAfter commandOf wrongWay loadRight storedIn loadJudged loadOf wordTaken dataInOf readWord readNext wordGiven dataOutOf statusOf listed startTable tablesSized emptyInput freshInput soundInput freshPipe soundPipe powerCall packetHeard meantBody replyBytes spokenBytes answered packetCall wordCall wordOf wordLent checksOf initialisedPod doneBy obeyOf justInitialised freshFields freshPod restful soundPod step final tells
 told-closings x = refl
 
-pub all-words : (x y z : ℕ) → WordsComputed x y z
+pub all-words : WordsComputed
 all-words x y z = record { words = told-words x y z; closings = told-closings x }

@@ -1,6 +1,5 @@
 -- Document 01's examples, and what stands beside a statement that judges by a rule's own test: proofs/Examples.antt has its one value.
 -- Assumes nothing.
-use Prim.Native.Nat.{ℕ}
 use Rattle.examples.specs.Shown.{Shown}
 use Rattle.examples.specs.Edges.{Edges}
 use Rattle.examples.specs.Bounds.{Bounds}
@@ -13,6 +12,6 @@ pub record Examples : Type 0 where
   pub edges : Edges
   pub bounds : Bounds
   pub computed : Computed
-  pub words : (x y z : ℕ) → WordsComputed x y z
+  pub words : WordsComputed
   pub packets : Packets
   pub conversation : Conversation

@@ -80,6 +80,9 @@ closings x =
     ∷ line (fiveAfter (load 5 63 1 x ++ off ++ order 0x0001)) (replicate 63 0 ++ (x ∷ []))
     ∷ []
 
-pub record WordsComputed (x y z : ℕ) : Type 0 where
+pub record BothTables (x y z : ℕ) : Type 0 where
   pub words : AsExpected (words x y z)
   pub closings : AsExpected (closings x)
+
+abbrev pub WordsComputed : Type 0
+WordsComputed = (x y z : ℕ) → BothTables x y z
