@@ -120,12 +120,12 @@ def statements():
         for name in names:
             seen[name] = edits
             for label in edits:
-                crate = next((c for c in ('rules', 'examples') if (ROOT / 'crates' / c / 'must-fail' / f'{label}.edit').exists()), None)
+                crate = next((c for c in ('rules', 'examples', 'port_examples') if (ROOT / 'crates' / c / 'must-fail' / f'{label}.edit').exists()), None)
                 if crate is None:
                     fail(f'{name}: there is no edit {label}')
                 elif not re.search(rf'error: `{proof_of(name)}`', log_of(crate, label)):
                     fail(f'{name}: {crate}/{label} does not fail at {proof_of(name)}')
-    for name in fields('crates/rules/specs/Whole.antt') + fields('crates/examples/specs/Examples.antt'):
+    for name in [f for path in ('rules/specs/Whole', 'examples/specs/Examples', 'port_examples/specs/PortExamples') for f in fields(f'crates/{path}.antt')]:
         if name not in seen:
             fail(f'the statement {name} has no row in docs/PROMISES.md')
     return len(seen)

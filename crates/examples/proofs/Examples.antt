@@ -4,9 +4,7 @@ use Rattle.examples.specs.Examples.{Examples}
 use Rattle.examples.proofs.Edges.{all-edges}
 use Rattle.examples.proofs.Bounds.{all-bounds}
 use Rattle.examples.proofs.Shown.{all-shown, all-computed, conversed}
-use Rattle.examples.proofs.Words.{all-words}
-use Rattle.examples.proofs.Packets.{all-packets}
 
 pub examples : Examples
 examples =
-    record { shown = all-shown; edges = all-edges; bounds = all-bounds; computed = all-computed; words = all-words; packets = all-packets; conversation = conversed }
+    record { shown = all-shown; edges = all-edges; bounds = all-bounds; computed = all-computed; conversation = conversed }

@@ -4,14 +4,10 @@ use Rattle.examples.specs.Shown.{Shown}
 use Rattle.examples.specs.Edges.{Edges}
 use Rattle.examples.specs.Bounds.{Bounds}
 use Rattle.examples.specs.Computed.{Computed, Conversation}
-use Rattle.examples.specs.Words.{WordsComputed}
-use Rattle.examples.specs.Packets.{Packets}
 
 pub record Examples : Type 0 where
   pub shown : Shown
   pub edges : Edges
   pub bounds : Bounds
   pub computed : Computed
-  pub words : WordsComputed
-  pub packets : Packets
   pub conversation : Conversation

@@ -24,9 +24,9 @@ use Rattle.frames.specs.Fields.{placed, frame}
 use Rattle.frames.specs.Layout.{lines03, lines47, framesOf}
 use Rattle.frames.specs.Samples.{sampleAt, sumOf, averageOf, averagesOf, boundedOf}
 use Rattle.rules.specs.Families.{wordOf, wordLent, pipeOf, loneOf}
 use Rattle.examples.specs.Shown.{justInitialised, AsExpected}
 use Rattle.examples.specs.Computed.{dusty}
-use Rattle.examples.specs.Packets.{Talks, checks, keeps, unfit, update, updated, exchanges, Packets}
+use Rattle.port_examples.specs.Packets.{Talks, checks, keeps, unfit, update, updated, exchanges, Packets}
 
 pub heard : Talks (world freshPod dusty) checks
 unfolding ran poly leaving bitIn bits bitsIn crcFrom crcOf withCrc answerOf errorAnswer numbersAt fieldsOf fieldsIn fieldsBounded findIn listedIn codeRow isCode commandPlace commandRow highFirst numberOf numberAt crcRight acknowledges packetRead isId inRows soundParams startParams storeSized soundRing placeBehind blockAt blocksFrom blocksIn oldestOf putRing putStore soundPlaces soundTransfer soundWords startWords closeOf listed startTable tablesSized emptyInput freshInput soundInput freshPipe soundPipe powerCall packetHeard meantBody replyBytes spokenBytes answered packetCall putCall checksOf initialisedPod doneBy obeyOf matches settled acknowledgedOf freshFields freshPod restful soundPod step tells

@@ -1,0 +1,4 @@
+pub mod Begun
+pub mod Words
+pub mod Packets
+pub mod PortExamples
