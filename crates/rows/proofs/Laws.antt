@@ -2,10 +2,9 @@
 -- Assumes nothing.
 use Prim.Native.Nat.{ℕ}
 use native.Mathlib.Omega.{arith}
-use mathlib.Core.Path.{_≡_, refl, sym, ap}
-use mathlib.Core.Logic.{_↔_}
-use mathlib.Core.Bool.{true, false, cond}
-use mathlib.Core.List.{List, [], _∷_, _++_}
+use mathlib.Core.Path.{_≡_, refl, sym}
+use mathlib.Core.Bool.{false}
+use mathlib.Core.List.{List, [], _∷_}
 use Rattle.rows.specs.Rows.{Row, First, here, after, Clear, none, past, Said, refused, gave, Out, out, given, ran}
 use Rattle.rows.proofs.Bool.{split, never}
 
@@ -62,14 +61,6 @@ ran-two C {rs} {qs} {p} {l} {e} {q} {m} {d} same f g = rw (← same) (on (gate r
     on (stops n h) = rw (ran-first p l e h, ran-first q m d h) (f n)
     on (opens h) = rw (ran-clear p l e h, ran-clear q m d h) (g h)
 
--- rows behind one that holds are never reached
-pub ran-stop : {A P L : Type 0} (p : P) (l : L) (e : Out A P L) (fs : List Row) (r : Row) (rs : List Row) → r .holds ≡ true
-    → ran (fs ++ (r ∷ rs)) p l e ≡ ran (fs ++ (r ∷ [])) p l e
-unfolding ran
-ran-stop p l e [] r rs h = rw h
-ran-stop {A} {P} {L} p l e (f ∷ fs) r rs h =
-    ap (λ (o : Out (Said A) P L). cond (f .holds) (out (refused (f .number)) p l) o) (ran-stop p l e fs r rs h)
-
 -- ---- what follows from what is said
 
 pub refused-same : {A : Type 0} {m n : ℕ} → _≡_ {A = Said A} (refused m) (refused n) → m ≡ n
@@ -77,15 +68,6 @@ refused-same e = cc
 
 pub gave-not : {A : Type 0} {a : A} {n : ℕ} → gave a ≡ refused n → ⊥
 gave-not e = let z : _≡_ {A = ℕ} 0 1 = cc in omega arith
-
-module _ {A P L : Type 0} (rs : List Row) (p : P) (l : L) (e : Out A P L) where
-  -- it is refused by a number exactly when the first row that holds has it
-  pub refused-by : (n : ℕ) → (ran rs p l e .said ≡ refused n) ↔ First n rs
-  refused-by n = (ran-case (λ o. o .said ≡ refused n → First n rs) rs (λ m f s. rw (refused-same s) at f) (λ k s. absurd (gave-not s)), λ f. ap (λ (o : Out (Said A) P L). o .said) (ran-first p l e f))
-
-  -- refused, all is as it came
-  pub refused-kept : (n : ℕ) → ran rs p l e .said ≡ refused n → ran rs p l e ≡ out (refused n) p l
-  refused-kept n s = ran-first p l e (refused-by n .0 s)
 
 -- ---- rows, taken apart
 

@@ -1,5 +1,5 @@
 -- Closing a transfer, and a port that nobody may open one on.
-use mathlib.Core.Path.{_≡_, refl, ap, _∙_}
+use mathlib.Core.Path.{_≡_, refl}
 use mathlib.Core.Bool.{false}
 use Prim.Native.Nat.{ℕ}
 use Rattle.tables.specs.declared.Words.{Words}
@@ -24,9 +24,6 @@ wrong-idle w = refl
 pub off-command : (word : ℕ) (s : Tabled) → commandOf false word s ≡ tabled (wrongWay (s .words)) (s .desk)
 unfolding orderHeard orderObeyed tablesAfter closeOf wrongWay
 off-command word s = obeyed Other false word s refl
-
-pub off-idle : (word : ℕ) (s : Tabled) → commandOf false word s .words .transfer ≡ Idle
-off-idle word s = ap (λ (y : Tabled). y .words .transfer) (off-command word s) ∙ wrong-idle (s .words)
 
 -- a data word written with nothing open sets message error and does no more
 pub idle-in : (x : ℕ) (s : Tabled) → s .words .transfer ≡ Idle → dataInOf x s ≡ tabled (wrongWay (s .words)) (s .desk)
