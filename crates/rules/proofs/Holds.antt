@@ -96,12 +96,12 @@ fresh-opened l = record { exchange = ap (λ (p : Pod). p .exchange) (powered-fre
 -- of the two remainings that of the store falls
 less-one : (s : Store) (first : ℕ) (one : Bool) (x : Exchange) (f : Fields)
     → ((r : Store) → acknowledgedBy r first one x ≡ sameStore r s)
-    → withRemaining s (remainingOf s f - 1) f ≡ lessBy Priority first one x (lessBy Ordinary first one x f)
+    → withRemaining s (remainingOf s f - 1) f ≡ lessBy (λ (r : Store). acknowledgedBy r first one x) f
 less-one Priority first one x f h = rw (h Priority, h Ordinary)
 less-one Ordinary first one x f h = rw (h Priority, h Ordinary)
 
 none-less : (first : ℕ) (one : Bool) (x : Exchange) (f : Fields) → ((r : Store) → acknowledgedBy r first one x ≡ false)
-    → f ≡ lessBy Priority first one x (lessBy Ordinary first one x f)
+    → f ≡ lessBy (λ (r : Store). acknowledgedBy r first one x) f
 none-less first one x f h = rw (h Priority, h Ordinary)
 
 settled-fields : {p q : Pod} {first : ℕ} {one : Bool} {x : Exchange} → Settles p first one x q

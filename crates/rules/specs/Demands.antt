@@ -3,7 +3,7 @@
 use Prim.Native.Nat.{ℕ, _+_, _<_, min}
 use mathlib.Core.Path.{_≡_}
 use mathlib.Core.Logic.{_↔_}
-use mathlib.Core.Bool.{true, false, not, _&&_, cond}
+use mathlib.Core.Bool.{true, false, _&&_, cond}
 use mathlib.Core.List.{List, [], _∷_, _++_}
 use lib.ListN.{getD, replicate}
 use lib.Dec.{eqb}
@@ -145,7 +145,7 @@ PortIsHistory =
     (l : Lent) (cs : List Call)
     → final (powered l) cs .pod .words ≡ fold portedBy (ported false startWords (l .load)) (events (powered l) cs) .words
 
--- what a data word read gives in any world, by the open transfer
+-- "A read of N gives the same three header words and N-3 data words", "read with no transfer that way .. reads as 0": in any world
 abbrev pub ReadsShown : Type 0
 ReadsShown =
     (w : World) → isAnswered w (word dataOut) ≡ true

@@ -20,7 +20,7 @@ use Rattle.packets.specs.Reading.{packetRead}
 use Rattle.params.specs.Rows.{paramRow}
 use Rattle.rules.specs.declared.Exchange.{Exchange}
 use Rattle.rules.specs.declared.Exchange.the-variants.{Closed, Status, Read, Receive}
-use Rattle.rules.specs.State.{freshFields, remainingOf, withRemaining}
+use Rattle.rules.specs.State.{freshFields}
 use Rattle.rules.specs.Obey.{receives}
 use Rattle.rules.specs.Refusals.{Giving, done, bytes, reads}
 use Rattle.rules.specs.Families.{WordCall, PipeCall, byte, timeout, LoneCall, deadline, pipe}
@@ -195,9 +195,10 @@ pub record Fielded : Type 0 where
 abbrev pub freshFielded : Fielded
 freshFielded = record { exchange = Closed; fields = freshFields }
 
--- "the oldest block of that store is dropped and its remaining falls by 1"
-abbrev pub lessBy : Store → ℕ → Bool → Exchange → Fields → Fields
-lessBy s first one x f = cond (acknowledged s first one x) (withRemaining s (remainingOf s f - 1) f) f
+-- "the oldest block of that store is dropped and its remaining falls by 1", and no other field changes
+abbrev pub lessBy : (Store → Bool) → Fields → Fields
+lessBy by f =
+    record { mode = f .mode; flags = f .flags; seconds = f .seconds; milliseconds = f .milliseconds; prioritylimit = f .prioritylimit; priorityremaining = cond (by Priority) (f .priorityremaining - 1) (f .priorityremaining); memorylimit = f .memorylimit; memoryremaining = cond (by Ordinary) (f .memoryremaining - 1) (f .memoryremaining); poll = f .poll }
 
 unfoldable pub fieldsBy : Event → Exchange → Fields → Fields
 fieldsBy nothing x f = f
@@ -207,7 +208,7 @@ fieldsBy (updates g) x f = g
 fieldsBy (writesParameter id v) x f = f
 fieldsBy (opensExchange y) x f = f
 fieldsBy closesExchange x f = f
-fieldsBy (hearsAcknowledgement first one) x f = lessBy Priority first one x (lessBy Ordinary first one x f)
+fieldsBy (hearsAcknowledgement first one) x f = lessBy (λ (s : Store). acknowledged s first one x) f
 fieldsBy (puts s b) x f = f
 fieldsBy (words c) x f = f
 fieldsBy (touches t l) x f = f

@@ -2,13 +2,11 @@
 -- told alone.
 -- Assumes nothing.
 use Prim.Native.Nat.{ℕ}
-use mathlib.Core.Bool.{Bool, true, false}
+use mathlib.Core.Bool.{Bool, false}
 use mathlib.Core.List.{List}
 use Rattle.tables.specs.declared.Words.{Words}
-use Rattle.tables.specs.declared.Transfer.{Transfer}
-use Rattle.tables.specs.declared.Transfer.the-variants.{Idle, Address, Load, Read}
 use Rattle.tables.specs.Port.{Desk, startWords, closeOf}
-use Rattle.rules.specs.Families.{WordCall, wordOf}
+use Rattle.rules.specs.Families.{WordCall}
 use Rattle.rules.specs.Heard.{Heard, wordHeard}
 use Rattle.rules.specs.World.{World}
 use Rattle.rules.specs.History.{Event, nothing, begins, sleeps, updates, writesParameter, opensExchange, closesExchange, hearsAcknowledgement, puts, words, touches}
