@@ -1,10 +1,10 @@
 -- `packet_port::power::power_on` meets its contract. Assumes nothing.
-use mathlib.Core.Path.{refl, ap, _∙_}
+use mathlib.Core.Path.{refl, ap₂, _∙_}
 use Rattle.rows.specs.Rows.{here, none, past, out, gave}
 use Rattle.rows.proofs.Bool.{as-row}
 use Rattle.rows.proofs.Laws.{refused-is, given-is}
 use Rattle.tables.specs.Tables.{Three}
-use Rattle.rules.specs.State.{freshPod}
+use Rattle.rules.specs.declared.Pod.{Pod}
 use Rattle.rules.specs.Refusals.{done, refusalNumber, answerSaid}
 use Rattle.rules.specs.Calls.{powerCall}
 use Rattle.gates.proofs.Fits.{tables-fit}
@@ -17,9 +17,8 @@ unfolding powerCall answerSaid
 returns-2 c =
     let s = c .before .before .before .before .before .before .before in
     let e1 = s .before .before .before .before in
-    rw (c .fresh-pod .ensures)
-    (ap (λ (t : Three). out (gave done) freshPod t) (s .to-starts .ensures)
-    ∙ given-is _ _ _ (past (as-row (e1 .before .sized .ensures) (e1 .if1 .left)) none))
+    ap₂ (λ (p : Pod) (t : Three). out (gave done) p t) (c .fresh-pod .ensures) (s .to-starts .ensures)
+    ∙ given-is _ _ _ (past (as-row (e1 .before .sized .ensures) (e1 .if1 .left)) none)
 
 pub power-on-spec : {M : Type 1} → statement M
 unfolding powerCall answerSaid refusalNumber
