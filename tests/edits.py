@@ -11,7 +11,10 @@ ROOT = pathlib.Path(__file__).resolve().parent.parent
 PROOFS = {'Shown': 'all-shown', 'Computed': 'all-computed', 'Edges': 'all-edges', 'Conversation': 'conversed', 'Bounds': 'all-bounds',
           'WordsComputed': 'all-words', 'Packets': 'all-packets'}
 # crates that hand on what others promise, or promise no more than to end: docs/PROMISES.md, 'Looser promises'
-BESIDE = ('pod', 'line_loop', 'vectors', 'repeats')
+BESIDE = ('pod', 'line_loop', 'aircraft_loop', 'vectors', 'repeats')
+# the crates that have statements, each with the record that holds all of them
+WHOLE = {'rules': 'Whole', 'examples': 'Examples', 'port_examples': 'PortExamples', 'airframe': 'Statements', 'both_ends': 'Ends',
+         'aircraft_lines': 'Statements', 'aircraft_answers': 'Statements'}
 HEAD = re.compile(r'^\s*(?:pub )?fn (\w+)', re.M)
 failures = []
 
@@ -106,11 +109,22 @@ def rows():
     table = text.split('| Statement | Edits that break it |', 1)[1].split('\n\n', 1)[0]
     for row in table.split('\n')[2:]:
         cells = row.split('|')
-        yield re.findall(r'`(\w+)`', cells[1]), re.findall(r'\w+', cells[2])
+        yield re.findall(r'`(\w+)`', cells[1]), re.findall(r'[\w/]+', cells[2])
+
+
+def edit_of(label):
+    """The crate and the name of an edit; where the table gives no crate, the one that has it."""
+    crate, _, edit = label.rpartition('/')
+    for name in [crate] if crate else WHOLE:
+        if (ROOT / 'crates' / name / 'must-fail' / f'{edit}.edit').exists():
+            return name, edit
+    return None, edit
 
 
 def fields(path):
-    return re.findall(r'^ +pub [\w-]+ : (\w+)', (ROOT / path).read_text(), re.M)
+    """The statements that are the fields of a file's last record."""
+    record = (ROOT / path).read_text().rpartition('pub record ')[2]
+    return re.findall(r'^ +pub [\w-]+ : (\w+)', record, re.M)
 
 
 def statements():
@@ -120,12 +134,12 @@ def statements():
         for name in names:
             seen[name] = edits
             for label in edits:
-                crate = next((c for c in ('rules', 'examples', 'port_examples') if (ROOT / 'crates' / c / 'must-fail' / f'{label}.edit').exists()), None)
+                crate, edit = edit_of(label)
                 if crate is None:
                     fail(f'{name}: there is no edit {label}')
-                elif not re.search(rf'error: `{proof_of(name)}`', log_of(crate, label)):
-                    fail(f'{name}: {crate}/{label} does not fail at {proof_of(name)}')
-    for name in [f for path in ('rules/specs/Whole', 'examples/specs/Examples', 'port_examples/specs/PortExamples') for f in fields(f'crates/{path}.antt')]:
+                elif not re.search(rf'error: `{proof_of(name)}`', log_of(crate, edit)):
+                    fail(f'{name}: {crate}/{edit} does not fail at {proof_of(name)}')
+    for name in [f for crate, file in WHOLE.items() for f in fields(f'crates/{crate}/specs/{file}.antt')]:
         if name not in seen:
             fail(f'the statement {name} has no row in docs/PROMISES.md')
     return len(seen)

@@ -1,9 +1,11 @@
 #!/usr/bin/env python3
-"""The second program, under tests/second, against document 01's shown examples."""
+"""The second programs, under tests/second, against document 01's shown examples and against each other."""
 import sys
 from pathlib import Path
 
 sys.path.insert(0, str(Path(__file__).resolve().parent / "second"))
+import airtest
 import selftest
 
 selftest.run()
+airtest.run()

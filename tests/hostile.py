@@ -1,4 +1,4 @@
-"""Hostile input for both programs: they print what the rules say, or stop cleanly when
+"""Hostile input for the programs that read lines: they print what the rules say, or stop cleanly when
 nobody reads, in bounded memory and within seconds, and miss no line.
 
 This program itself must stay small: a process that is started shows at least the memory of
@@ -18,6 +18,7 @@ from itertools import chain, repeat
 from pathlib import Path
 
 sys.path.insert(0, str(Path(__file__).resolve().parent / "second"))
+from airframe.lines import Aircraft, aircraft_line
 from model import Pod, console_line, session_line
 from ports.lines import LONGEST
 from ports.packets import sealed
@@ -26,16 +27,18 @@ ROOT = Path(__file__).resolve().parent.parent
 NATIVE = platform.machine() == "x86_64"   # elsewhere the emulator's memory and time count too
 MEMORY = (64 if NATIVE else 512) * 1024   # kilobytes
 LIMIT = 60 if NATIVE else 300             # seconds until a run counts as hanging
-FORMS = {"session": session_line, "console": console_line}
+# program: what it begins with, and what it prints for a line
+FORMS = {"session": (Pod, session_line), "console": (Pod, console_line), "aircraft": (Aircraft, aircraft_line)}
 PIECE = b" 00" * 20000
 
 
 def answers(program, data):
-    """What the rules say to an input on a fresh pod, one line after another. 'A last line
-    without its newline counts.'"""
-    pod = Pod()
+    """What the rules say to an input on a fresh pod or aircraft, one line after another. 'A last
+    line without its newline counts.'"""
+    begin, printed = FORMS[program]
+    state = begin()
     for line in io.BytesIO(data):
-        yield FORMS[program](pod, line[:-1] if line.endswith(b"\n") else line) + b"\n"
+        yield printed(state, line[:-1] if line.endswith(b"\n") else line) + b"\n"
 
 
 def pour(stream, pieces):
@@ -139,6 +142,8 @@ def inputs():
     yield "a letter without newline", b"x"
     yield "random bytes", random.Random(1).randbytes(1000000)
     yield "random letters", random_text(2, b"PDBCWRSAITZpo 0123456789ABCDEF\n\n\n", 600000)
+    yield "random letters of an aircraft", random_text(5, b"QYNP 0123459F-\n\n\n", 300000)
+    yield "an aircraft's lines", b"Q 96\nP -\nN\nY 96\nQ 94 0\nP 96\nQ 93 9 -9\nP 93 01 7E 41 9D\n" * 10000
     yield "random near letters", random_text(3, b"PDRSTZIC 0189AF\n\n\n\n\r\0abz", 600000)
     yield "NULs", b"\0" * 1000000
     yield "NULs in lines", b"P 91\0\n\0P 91\nP\0\n\0\n\0\0\nP 91\n" * 1000

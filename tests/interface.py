@@ -3,8 +3,8 @@
 
 Reads every table of docs/INTERFACE.md and the sessions of docs/TROUBLE.md. Each table has a check that knows its rows: it
 makes lines of them, holds what they say against the second model (tests/second) at once, and at the end against what
-`console`, `session` and, where there is one, `lab` print. It fails on a row that is missing or differs, on a table that no
-check knows, and on a picture that is not drawn from today's tables.
+`console`, `session`, `aircraft` and, where there is one, `lab` print. It fails on a row that is missing or differs, on a table
+that no check knows, and on a picture that is not drawn from today's tables.
 
     tests/interface.py           the test
     tests/interface.py --write   writes what the second model prints into the sessions; read the difference before you keep it
@@ -18,10 +18,12 @@ from pathlib import Path
 HERE = Path(__file__).resolve().parent
 sys.path[:0] = [str(HERE), str(HERE / "second")]
 import model
-from sheet import pictures
+from airframe.lines import Aircraft, aircraft_line
+from sheet import aircraft, pictures
 from sheet.camera import Camera
 from sheet.desk import MOST, Desk, checks
 from sheet.exchanges import Exchanges
+from sheet.library import Library
 from sheet.packets import Packets
 from sheet.pages import ROOT, Fault, line_of, number, plain, tables
 from sheet.programs import Programs
@@ -29,7 +31,10 @@ from sheet.state import State
 from sheet.words import Words
 
 SHEET, TROUBLE = "docs/INTERFACE.md", "docs/TROUBLE.md"
-SESSIONS = {"Line": "console", "Line of session": "session", "Line of lab": "lab"}
+SESSIONS = {"Line": "console", "Line of session": "session", "Line of lab": "lab", "Line of aircraft": "aircraft"}
+# a fresh state and what a line prints, by the second programs
+SECOND = {"console": (model.Pod, model.console_line), "session": (model.Pod, model.session_line),
+          "aircraft": (Aircraft, aircraft_line)}
 
 
 class Sheet:
@@ -61,13 +66,13 @@ def play(desk, sheet):
         if SESSIONS[table.head[0]] == "lab":
             desk.lab(where, pairs, alone=True)
         else:
-            {"console": desk.case, "session": desk.session}[SESSIONS[table.head[0]]](where, pairs)
+            {"console": desk.case, "session": desk.session, "aircraft": desk.aircraft}[SESSIONS[table.head[0]]](where, pairs)
 
 
 def covered(desk, sheet):
     """Every packet, error, refusal, command and letter has a worked example on the sheet."""
     shown = [(line_of(row, 0), line_of(row, 1)) for table in sheet.sessions
-             if table.page == SHEET and table.head[0] != "Line of session" for row in table]
+             if table.page == SHEET and table.head[0] in ("Line", "Line of lab") for row in table]
     for row in sheet.take("Code", "Command", "Type", "Bytes", "Answer"):
         code = "%02X" % number(row[0])
         if not any(line.startswith("P %s 01 " % code) and told.startswith("P %s 01 " % code)
@@ -88,16 +93,17 @@ def covered(desk, sheet):
 
 
 def write():
-    """What the second model prints, written into the sessions of console and session."""
+    """What the second programs print, written into the sessions of console, session and aircraft."""
     for page in (SHEET, TROUBLE):
         lines = (ROOT / page).read_text().split("\n")
         for table in tables(page):
-            program = SESSIONS.get(table.head[0], "lab")
-            pod, tells = model.Pod(), model.session_line if program == "session" else model.console_line
-            for row in table.rows if program != "lab" else ():
-                told = tells(pod, line_of(row, 0).encode()).decode()
-                if told != line_of(row, 1):
-                    cells = (row[0], "`%s`" % told) + row.cells[2:]
+            talk = table.head == aircraft.TALK
+            states = {program: fresh() for program, (fresh, _) in SECOND.items()}
+            for row in table.rows if talk or SESSIONS.get(table.head[0], "lab") != "lab" else ():
+                program = plain(row[0]) if talk else SESSIONS[table.head[0]]
+                told = SECOND[program][1](states[program], line_of(row, talk).encode()).decode()
+                if told != line_of(row, talk + 1):
+                    cells = row.cells[:talk + 1] + ("`%s`" % told,) + row.cells[talk + 2:]
                     lines[row.number - 1] = "| %s |" % " | ".join(cells)
         (ROOT / page).write_text("\n".join(lines))
 
@@ -108,9 +114,9 @@ def test():
     try:
         packets = Packets(desk, sheet.take)
         packets.all()
-        for part in (Exchanges, State, Words, Camera, Programs):
+        for part in (Exchanges, State, Words, Camera, Programs, Library, aircraft.AircraftHalf):
             part(desk, sheet.take, packets).all()
-        checks(desk, lambda: play(desk, sheet), lambda: covered(desk, sheet))
+        checks(desk, lambda: play(desk, sheet), lambda: covered(desk, sheet), lambda: aircraft.covered(desk, sheet))
         for table in sheet.left():
             desk.fault("%s: no check knows a table with the head: %s" % (table.where, " | ".join(table.head)))
         for name, drawn in pictures.all(sheet.take).items():

@@ -1,4 +1,5 @@
-"""What is counted: the calls of the pod, in the cases that looked dearest, and the lines for `repeats` that make them.
+"""What is counted: the calls of the pod, in the cases that looked dearest, those of the aircraft's half, and the lines for
+`repeats` and `repeats_airframe` that make them.
 
 Two runs that differ in the number of calls alone differ by what those calls cost, whatever starting the program took.
 """
@@ -18,9 +19,10 @@ class Case(NamedTuple):
     waiting: int = 0
     few: int = 100
     many: int = 1100
+    program: str = "repeats"
 
     def line(self, calls):
-        """The line for `repeats`."""
+        """The line for the program."""
         return spelt(self.letter, bytes([self.waiting, calls >> 8, calls & 0xFF]) + self.rest)
 
 
@@ -41,6 +43,7 @@ INITIALISE = closed(0x90, 0x01, *FIELDS)
 UPDATE = closed(0x92, 0x01, *FIELDS)
 WRITE = closed(0x93, 0x01, 3, 0, 0, 3, 0x84)
 READ = closed(0x94, 0x01, 3)
+ANSWER = closed(0x96, 0x01, *(i % 251 for i in range(256)))
 REJECTED = bytes([0x96, 0x01]) + bytes(i % 256 for i in range(258))
 LOAD_64 = bytes([0x0C, 0x40])
 READ_64 = bytes([0xCC, 0x40])
@@ -81,6 +84,11 @@ OTHERS = (
     Case("pipe timeout with seven gathered", "T", few=7, many=8),
     Case("deadline", "D", NONE + NONE),
 )
+# By the word for the C peer.
+AIRFRAME = {
+    "build": Case("a command of 25 bytes built", "Q", INITIALISE, program="repeats_airframe"),
+    "read": Case("an answer of 260 bytes read", "P", ANSWER, program="repeats_airframe"),
+}
 FLAT = tuple(Case(f"packet 0x96, {n} waiting", "P", DATA, n) for n in (1, 16, 64, 128)) + tuple(
     Case(f"put, behind {n}", "B", BLOCK, n, few=0, many=10) for n in (0, 64, 118)
 )

@@ -1,5 +1,5 @@
-"""The module that the kit compiles of a proved program, kept; and its forms: with the pod's calls as firmware makes them,
-external and not inlined, and for another processor.
+"""The module that the kit compiles of a proved program, kept; and its forms: with the calls of the pod or of the aircraft's
+half as firmware makes them, external and not inlined, and for another processor.
 
 A folder of links stands in for the kit, whose clang notes what it is given and then does its work. So what is kept is the
 module of the very run that proved the program.
@@ -28,6 +28,7 @@ CALLS = (
     "data_out",
     "status_word",
 )
+AIRFRAME = ("build", "read")
 KEEPER = """#!/bin/sh
 cp module.bc '{keep}.bc' && printf '%s\\n' "$@" >'{keep}.words' && exec '{clang}' "$@"
 """
@@ -149,18 +150,22 @@ def text(name):
 
 @functools.cache
 def defined(call):
-    """The line by which a call of the pod is defined, whichever crate and file it stands in: the crate `pod` names it."""
-    names = (TOP / "crates" / "pod" / "src" / "lib.rt").read_text()
-    found = re.findall(rf"^pub use (\w+)::{call};$", names, re.M) or fail(f"the crate pod names no {call}")
-    return re.compile(rf'^define internal (.*@"{found[0]}::(?:\w+::)*{call}"\(.*\)) (#\d+ {{)$', re.M)
+    """The line by which a call is defined: one of the aircraft's half, or one of the pod, whichever crate and file it stands
+    in: the crate `pod` names it."""
+    crate = "airframe"
+    if call not in AIRFRAME:
+        names = (TOP / "crates" / "pod" / "src" / "lib.rt").read_text()
+        found = re.findall(rf"^pub use (\w+)::{call};$", names, re.M) or fail(f"the crate pod names no {call}")
+        crate = found[0]
+    return re.compile(rf'^define internal (.*@"{crate}::(?:\w+::)*{call}"\(.*\)) (#\d+ {{)$', re.M)
 
 
-def external(ir):
-    """With the calls of the pod as firmware makes them, but for power on, which `repeats` doesn't make."""
-    for call in CALLS[1:]:
+def external(ir, calls=CALLS[1:]):
+    """With the calls as firmware makes them: those of the pod, but for power on, which `repeats` doesn't make, or others."""
+    for call in calls:
         ir, found = defined(call).subn(r"define \1 noinline \2", ir)
         if found != 1:
-            fail(f"{found} functions of the pod are called {call}")
+            fail(f"{found} functions are called {call}")
     return ir
 
 

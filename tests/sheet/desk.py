@@ -2,11 +2,14 @@
 import subprocess
 
 import model
+from airframe.lines import Aircraft, aircraft_line
 from ports.refusal import Refused
 from .pages import ROOT, Fault, crates
 
 LIMIT = 120         # seconds for one run
 MOST = 12           # differences that are printed
+# lines after which nothing is on its way in `aircraft`, as at its start
+OVER = [("Q 9F", "P 9F 01 05 FB"), ("P 9F 01 7E 34 FC", "R done")]
 
 
 class Desk:
@@ -15,7 +18,7 @@ class Desk:
     def __init__(self):
         self.faults = []
         self.blamed = set()
-        self.cases = {"console": [], "lab": []}
+        self.cases = {"console": [], "lab": [], "aircraft": []}
         self.alone = []
         self.has_lab = "lab" in crates()
         self.lines = self.skipped = 0
@@ -24,11 +27,11 @@ class Desk:
         """One more difference."""
         self.faults.append(text)
 
-    def agreed(self, where, pairs, tells):
+    def agreed(self, where, pairs, tells, fresh=model.Pod):
         """Whether the second model says what the page says; of one place the first difference is told."""
-        pod = model.Pod()
+        state = fresh()
         for line, prints in pairs:
-            told = tells(pod, line.encode()).decode()
+            told = tells(state, line.encode()).decode()
             if told != prints:
                 if where not in self.blamed:
                     self.fault("%s: `%s` prints `%s`, and the second model says `%s`" % (where, cut(line), cut(prints), cut(told)))
@@ -55,6 +58,11 @@ class Desk:
         """A session of the packet program, in a run of its own."""
         if self.agreed(where, pairs, model.session_line):
             self.alone.append(("session", where, pairs))
+
+    def aircraft(self, where, pairs):
+        """Lines of the program aircraft, from nothing on its way."""
+        if self.agreed(where, pairs, aircraft_line, Aircraft):
+            self.cases["aircraft"].append((where, OVER + list(pairs)))
 
     def finish(self):
         """Hold all against the programs."""

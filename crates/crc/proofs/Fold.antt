@@ -46,21 +46,21 @@ fold-lin : Linear fold
 unfolding fold
 fold-lin a b = both-xor 8 0 0 a b
 
--- the shifts of a register of n times 16 bits, and as many zero bits more: `two` has n 1, `crc_of` 4
-abbrev half : ℕ → Shifts
-half n = sum plain (down (4 * n) plain)
+-- the shifts of a register of n times 16 bits, and as many zero bits more: `two` has n 1, `halved` 2, `crc_of` 4
+abbrev half : ℕ → Shifts → Shifts
+half n x = sum x (down (4 * n) x)
 
-abbrev quotient : ℕ → Shifts
-quotient n = sum (sum (half n) (down (8 * n) (half n))) (down (11 * n) plain)
+abbrev quotient : ℕ → Shifts → Shifts
+quotient n x = sum (sum (half n x) (down (8 * n) (half n x))) (down (11 * n) x)
 
 abbrev rest : ℕ → Shifts → Shifts
 rest n h = sum (sum h (up (5 * n) h)) (up (12 * n) h)
 
 abbrev raise : ℕ → ℕ → ℕ
-raise n = shifts (16 * n) (rest n (quotient n))
+raise n = shifts (16 * n) (rest n (quotient n plain))
 
 raise-lin : (n : ℕ) → Linear (raise n)
-raise-lin n = linear (16 * n) (rest n (quotient n))
+raise-lin n = linear (16 * n) (rest n (quotient n plain))
 
 zeros-lin : (n : ℕ) → Linear (λ c. crcFrom c (crcBytes n 0))
 zeros-lin n a b = both-xor n a b 0 0
@@ -76,6 +76,17 @@ unfolding fold crcBytes crcFrom bitsIn bits bitIn leaving poly
 lifted =
     basis (λ s. fold (raise 4 s)) (λ s. crcFrom (fold s) (crcBytes 8 0)) (λ a b. ap fold (raise-lin 4 a b) ∙ fold-lin (raise 4 a) (raise 4 b))
     (λ a b. ap (λ (c : ℕ). crcFrom c (crcBytes 8 0)) (fold-lin a b) ∙ zeros-lin 8 (fold a) (fold b)) 64 tt
+
+-- the upper 32 bits of 64 as such a register, and the lower 32 added
+abbrev halves : Shifts
+halves = sum (rest 2 (quotient 2 (down 32 plain))) (digits 32 plain)
+
+pub in-halves : (s : ℕ) → s < 2 ^ 64 → crcFrom 0 (crcBytes 4 (shifts 32 halves s)) ≡ crcFrom 0 (crcBytes 8 s)
+unfolding crcBytes crcFrom bitsIn bits bitIn leaving poly
+in-halves =
+    basis (λ s. crcFrom 0 (crcBytes 4 (shifts 32 halves s))) (λ s. crcFrom 0 (crcBytes 8 s))
+    (λ a b. ap (λ (x : ℕ). crcFrom 0 (crcBytes 4 x)) (linear 32 halves a b) ∙ both-xor 4 0 0 (shifts 32 halves a) (shifts 32 halves b))
+    (λ a b. both-xor 8 0 0 a b) 64 tt
 
 -- two bytes enter an empty register as they would stand in a full one
 entered : (w : ℕ) → w < 2 ^ 16 → crcFrom 0 (crcBytes 2 w) ≡ crcFrom w (crcBytes 2 0)
@@ -97,7 +108,7 @@ eight-more s w h = fold-lin (raise 4 s) w ∙ ap (λ (x : ℕ). bitXor x (fold w
 
 -- and it stays a register of 64 bits
 pub eight-fits : (s w : ℕ) → s < 2 ^ 64 → w < 2 ^ 64 → bitXor (raise 4 s) w < 2 ^ 64
-eight-fits s w h l = xor-lt 64 (raise 4 s) w (shifts-fit 64 (rest 4 (quotient 4)) s h) l
+eight-fits s w h l = xor-lt 64 (raise 4 s) w (shifts-fit 64 (rest 4 (quotient 4 plain)) s h) l
 
 -- what stands in it at the start
 pub started : fold 33999 ≡ 65535

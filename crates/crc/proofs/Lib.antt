@@ -4,3 +4,4 @@ pub mod Linear
 pub mod Register
 pub mod Bytes
 pub mod Fold
+pub mod Damage

@@ -38,7 +38,7 @@ bitIn-lt : (c m : ℕ) → bitIn c m < 2 ^ 16
 unfolding bitIn poly
 bitIn-lt c m = xor-lt 16 (leaving c m * poly) (c % 2 ^ 15 * 2) (omega (arith, leaving-lt c m)) (omega arith)
 
-byteIn-lt : (c b : ℕ) → byteIn c b < 2 ^ 16
+pub byteIn-lt : (c b : ℕ) → byteIn c b < 2 ^ 16
 unfolding byteIn crcFrom bitsIn bits
 byteIn-lt c b = bitIn-lt _ _
 

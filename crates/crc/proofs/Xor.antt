@@ -4,7 +4,7 @@ use Prim.Native.Nat.{ℕ, _+_, _/_, _%_}
 use native.Mathlib.Nat.{add-assoc}
 use native.Mathlib.Omega.{arith}
 use lib.Arith.{bin-ind}
-use lib.Bits.{bitXor, xor-add-and, xor-shr, xor-comm}
+use lib.Bits.{bitXor, xor-add-and, xor-shr, xor-comm, xor-self, xor-zero-r}
 
 xor-odd : (a b : ℕ) → bitXor a b % 2 ≡ (a + b) % 2
 xor-odd a b = omega (arith, xor-add-and a b)
@@ -30,3 +30,7 @@ pub xor-four : (a b c d : ℕ) → bitXor (bitXor a b) (bitXor c d) ≡ bitXor (
 xor-four a b c d =
     xor-assoc a b (bitXor c d) ∙ ap (bitXor a) (sym (xor-assoc b c d) ∙ ap (λ (x : ℕ). bitXor x d) (xor-comm b c) ∙ xor-assoc c b d)
     ∙ sym (xor-assoc a c (bitXor b d))
+
+-- two numbers whose sum without carries is 0 are one
+pub xor-apart : (a b : ℕ) → bitXor a b ≡ 0 → a ≡ b
+xor-apart a b e = sym (xor-zero-r a) ∙ ap (bitXor a) (sym (xor-self b)) ∙ sym (xor-assoc a b b) ∙ ap (λ (x : ℕ). bitXor x b) e

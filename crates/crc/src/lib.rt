@@ -3,6 +3,7 @@ mod narrow;
 mod wide;
 
 use narrow::one;
+use narrow::pair;
 use wide::fold_of;
 use wide::word_of;
 ghost use mathlib.Core.Path.{_≡_};
@@ -25,9 +26,12 @@ pub fn crc_of(bytes: &[u8]) -> u16
         i += 8;
     }
     let mut c = fold_of(s);
-    while i < bytes.len() {
-        c = one(c, bytes[i]);
-        i += 1;
+    while bytes.len() - i >= 2 {
+        c = pair(c, bytes[i], bytes[i + 1]);
+        i += 2;
+    }
+    if i < bytes.len() {
+        return one(c, bytes[i]);
     }
     c
 }

@@ -29,6 +29,12 @@ fn two(c: u16, w: u16) -> u16
     h ^ (h << 5) ^ (h << 12)
 }
 
+pub fn pair(c: u16, a: u8, b: u8) -> u16
+    ensures { λ r. ⌜ r ≡ crcFrom c (a ∷ b ∷ []) ⌝ }
+{
+    two(c, ((a as u16) << 8) | (b as u16))
+}
+
 pub fn four(c: u16, w: u32) -> u16
     ensures { λ r. ⌜ r ≡ crcFrom c (crcBytes 4 w) ⌝ }
 {

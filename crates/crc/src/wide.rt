@@ -6,10 +6,20 @@ ghost use lib.ListN.{length};
 ghost use Rattle.crc.specs.Crc.{crcFrom};
 ghost use Rattle.crc.specs.Bytes.{crcBytes};
 
+// A number of 32 bits that leaves the same. Modulo the polynomial x ^ 32 is x ^ 24 + x ^ 10 + 1, its square.
+fn halved(s: u64) -> u32
+    ensures { λ r. ⌜ crcFrom 0 (crcBytes 4 r) ≡ crcFrom 0 (crcBytes 8 s) ⌝ }
+{
+    let t = (s / 4294967296) as u32;
+    let u = t ^ (t >> 8);
+    let h = u ^ (u >> 16) ^ (t >> 22);
+    h ^ (h << 10) ^ (h << 24) ^ ((s % 4294967296) as u32)
+}
+
 pub fn fold_of(s: u64) -> u16
     ensures { λ r. ⌜ r ≡ crcFrom 0 (crcBytes 8 s) ⌝ }
 {
-    four(four(0, (s / 4294967296) as u32), (s % 4294967296) as u32)
+    four(0, halved(s))
 }
 
 // Eight bytes as a number, the first one highest. In one chain of `|` the compiler sees one load.

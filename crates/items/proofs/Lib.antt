@@ -4,3 +4,4 @@ pub mod Spelled
 pub mod Numerals
 pub mod Pairs
 pub mod Laws
+pub mod Inked

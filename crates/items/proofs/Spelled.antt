@@ -8,7 +8,7 @@ use mathlib.Core.List.{List, [], _∷_, _++_}
 use lib.ListN.{length, drop, getD, drop-of-length-le, length-append}
 use Rattle.hex.specs.Digits.{byteDigits}
 use Rattle.items.specs.Text.{spell}
-use Rattle.items.specs.Printed.{answerLine, bytesLine, decimal, refusedLine}
+use Rattle.items.specs.Printed.{answerLine, bytesLine, digitsOf, decimal, refusedLine}
 use Rattle.items.proofs.Lists.{next}
 
 -- the next byte
@@ -44,10 +44,10 @@ some-length c bs h = rw (some-line c bs h) (omega (arith, length-append (spell b
 
 -- a refusal's number has one digit ..
 pub one-digit : (c n : ℕ) → n < 10 → refusedLine c n ≡ c ∷ 32 ∷ 33 ∷ (48 + n) ∷ 10 ∷ []
-unfolding refusedLine decimal
+unfolding refusedLine decimal digitsOf
 one-digit c n h = rw (lt-ltb n 10 h)
 
 -- .. or two
-pub two-digits : (c n : ℕ) → 10 ≤ n → refusedLine c n ≡ c ∷ 32 ∷ 33 ∷ (48 + n / 10) ∷ (48 + n % 10) ∷ 10 ∷ []
-unfolding refusedLine decimal
-two-digits c n h = rw (le-ltb n 10 h)
+pub two-digits : (c n : ℕ) → 10 ≤ n → n < 100 → refusedLine c n ≡ c ∷ 32 ∷ 33 ∷ (48 + n / 10) ∷ (48 + n % 10) ∷ 10 ∷ []
+unfolding refusedLine decimal digitsOf
+two-digits c n h k = rw (le-ltb n 10 h, lt-ltb (n / 10) 10 (omega arith))

@@ -1,7 +1,7 @@
 -- The lines that are printed: a letter, what it answers, and the newline.
 -- Assumes nothing.
 use mathlib.Core.List.{List, [], _∷_, _++_}
-use Prim.Native.Nat.{ℕ, _+_, _/_, _%_}
+use Prim.Native.Nat.{ℕ, zero, suc, _+_, _/_, _%_}
 use mathlib.Core.Bool.{cond}
 use lib.Dec.{ltb}
 use Rattle.hex.specs.Digits.{wordDigits}
@@ -25,9 +25,14 @@ wordLine c w = c ∷ space ∷ (wordDigits w ++ (newline ∷ []))
 unfoldable pub bareLine : ℕ → List ℕ
 bareLine c = c ∷ newline ∷ []
 
--- a number below 100 in decimal: one digit below 10, else two
+-- at most so many decimal digits, the highest first
+unfoldable pub digitsOf : ℕ → ℕ → List ℕ
+digitsOf zero n = []
+digitsOf (suc k) n = cond (ltb n 10) ((zeroDigit + n) ∷ []) (digitsOf k (n / 10) ++ ((zeroDigit + n % 10) ∷ []))
+
+-- a number of 64 bits has at most twenty
 unfoldable pub decimal : ℕ → List ℕ
-decimal n = cond (ltb n 10) ((zeroDigit + n) ∷ []) ((zeroDigit + n / 10) ∷ (zeroDigit + n % 10) ∷ [])
+decimal n = digitsOf 20 n
 
 -- "a refused call prints the letter, a space, `!` and the number"
 unfoldable pub refusedLine : ℕ → ℕ → List ℕ

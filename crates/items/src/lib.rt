@@ -8,6 +8,7 @@ pub use parts::front;
 pub use parts::front_words;
 pub use printing::bare_line;
 pub use printing::bytes_line;
+pub use printing::put_items;
 pub use printing::refused_line;
 pub use printing::word_line;
 pub use reading::byte_item;

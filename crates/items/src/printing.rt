@@ -8,7 +8,7 @@ ghost use Rattle.items.specs.Text.{spell};
 ghost use Rattle.items.specs.Printed.{bytesLine, wordLine, bareLine, refusedLine};
 
 // Each byte after one space.
-fn put_items(out: &mut [u8], at: usize, bytes: &[u8]) -> usize
+pub fn put_items(out: &mut [u8], at: usize, bytes: &[u8]) -> usize
     requires { ⌜ at + 3 * length (now bytes) ≤ length (now out) ⌝ }
     ensures { λ r. ⌜ r ≡ at + 3 * length (now (bytes .entry)) ⌝ }
     ensures { λ _. ⌜ now (out .exit) ≡ sets (now (out .entry)) at (spell (now (bytes .entry))) ⌝ }

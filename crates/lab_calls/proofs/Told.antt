@@ -13,7 +13,7 @@ use Rattle.rules.specs.State.{Lent}
 use Rattle.line_calls.specs.declared.Sizes.{Sizes}
 use Rattle.lab_sets.specs.Setting.{partSet, loadSet}
 use Rattle.lab_lines.specs.Asked.{changeIn}
-use Rattle.lab_shows.specs.Decimal.{Written}
+use Rattle.decimals.specs.Printing.{Written}
 use Rattle.lab_shows.specs.Shown.{shownText}
 use Rattle.lab_calls.specs.declared.Noted.{Noted}
 use Rattle.lab_calls.specs.Own.{isShow, isOwn, sizesSet, letterOf, ownOf, OwnAnswered}

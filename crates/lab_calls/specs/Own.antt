@@ -20,7 +20,7 @@ use Rattle.lab_sets.specs.declared.Change.{Change}
 use Rattle.lab_sets.specs.declared.Change.the-variants.{Nothing, Cell, Value, Exchange, Address, Transfer, Thing as thing}
 use Rattle.lab_sets.specs.Setting.{partSet, loadSet}
 use Rattle.lab_lines.specs.Asked.{changeIn}
-use Rattle.lab_shows.specs.Decimal.{Written}
+use Rattle.decimals.specs.Printing.{Written}
 use Rattle.lab_shows.specs.Shown.{letterV, shownText}
 use Rattle.lab_calls.specs.declared.Noted.{Noted}
 

@@ -15,7 +15,7 @@ ghost use lib.ListN.{length};
 ghost use Rattle.items.specs.Printed.{bareLine};
 ghost use Rattle.lab_sets.specs.Ranges.{inRange};
 ghost use Rattle.lab_sets.specs.Setting.{partSet, loadSet};
-ghost use Rattle.lab_shows.specs.Decimal.{Written};
+ghost use Rattle.decimals.specs.Printing.{Written};
 ghost use Rattle.lab_calls.specs.Own.{sizeSet, sizesSet, letterOf};
 
 fn store_size(sizes: Sizes, store: Store, n: usize) -> Sizes

@@ -11,13 +11,14 @@ use borrow.Author.Tests.{leb-true, ltb-true}
 use Rattle.rows.proofs.Bool.{and-left, and-right}
 use Rattle.numbers.specs.Numbers.{signedOf}
 use Rattle.numbers.proofs.Complement.{low-is, high-is}
-use Rattle.lab_lines.specs.declared.Number.{Number}
+use Rattle.decimals.specs.declared.Number.{Number}
+use Rattle.decimals.specs.Reading.{isBelow}
 use Rattle.lab_lines.specs.Ranges.{upTo}
 use Rattle.lab_lines.specs.Asked.{numberAt, allBytes}
 
 -- a number from 0 to its most
 pub up-most : (m : ℕ) (n : Number) → upTo m n ≡ true → n .size ≤ m
-up-most m n h = leb-true (n .size) m (and-right (not (n .below)) (leb (n .size) m) h)
+up-most m n h = leb-true (n .size) m (and-right (not (isBelow n)) (leb (n .size) m) h)
 
 -- each of the five numbers
 pub bytes-each : (l : List Number) → allBytes l ≡ true
@@ -39,13 +40,13 @@ bytes-each l h =
     )
 
 -- a value below 0, and one from 0 on, by its bits
-pub below-size : (b : Bool) (n : ℕ) → (b && (leb 1 n && leb n 0x8000_0000)) ≡ true → (1 ≤ n) × (n ≤ 0x8000_0000)
-below-size b n h =
-    let both = and-right b (leb 1 n && leb n 0x8000_0000) h in
-    (leb-true 1 n (and-left (leb 1 n) (leb n 0x8000_0000) both), leb-true n 0x8000_0000 (and-right (leb 1 n) (leb n 0x8000_0000) both))
+pub below-size : (n : Number) → (isBelow n && leb (n .size) 0x8000_0000) ≡ true → (1 ≤ n .size) × (n .size ≤ 0x8000_0000)
+below-size n h =
+    let few = leb (n .size) 0x8000_0000 in
+    (ltb-true 0 (n .size) (and-right (n .minus) (ltb 0 (n .size)) (and-left (isBelow n) few h)), leb-true (n .size) 0x8000_0000 (and-right (isBelow n) few h))
 
-pub over-size : (b : Bool) (n : ℕ) → (not b && ltb n 0x8000_0000) ≡ true → n < 0x8000_0000
-over-size b n h = ltb-true n 0x8000_0000 (and-right (not b) (ltb n 0x8000_0000) h)
+pub over-size : (n : Number) → (not (isBelow n) && ltb (n .size) 0x8000_0000) ≡ true → n .size < 0x8000_0000
+over-size n h = ltb-true (n .size) 0x8000_0000 (and-right (not (isBelow n)) (ltb (n .size) 0x8000_0000) h)
 
 pub below-zero : (n : ℕ) → 1 ≤ n → n ≤ 0x8000_0000 → signedOf 4 (0x1_0000_0000 - n) ≡ negℤ (pos n)
 below-zero zero h k = absurd (omega arith)

@@ -18,12 +18,12 @@ use Rattle.lab_sets.specs.declared.Thing.{Thing}
 use Rattle.lab_sets.specs.declared.Change.{Change}
 use Rattle.lab_sets.specs.declared.Change.the-variants as change
 use Rattle.lab_sets.specs.Ranges.{most, cellMost, inRange}
-use Rattle.lab_lines.specs.declared.Number.{Number}
-use Rattle.lab_lines.specs.declared.Numbers.{Numbers}
+use Rattle.decimals.specs.declared.Number.{Number}
+use Rattle.decimals.specs.declared.Numbers.{Numbers}
 use Rattle.lab_names.specs.declared.Part.{Part}
 use Rattle.lab_names.specs.declared.Part.the-variants as part
 use Rattle.lab_names.specs.Names.{partNamed}
-use Rattle.lab_lines.specs.Reading.{numbersIn, numbersRead}
+use Rattle.decimals.specs.Reading.{isBelow, numbersIn, numbersRead}
 use Rattle.lab_lines.specs.Ranges.{upTo, minusOne, rightSize}
 use Rattle.lab_lines.specs.Asked.{cellAsked, valueAsked, exchangeOf, exchangeAsked, addressAsked, moving, transferOf, numberAt, allBytes, fiveAsked, only, transferAsked, thingAsked, askedOf, nameEnd, changeIn}
 
@@ -34,13 +34,13 @@ module _ (P : Change → Type 0) (none : P change.Nothing) (cells : (c : Cell) (
   cell-case : (c : Cell) (n : Number) → P (cellAsked c n)
   unfolding cellAsked
   cell-case c n =
-      by-test P (upTo (cellMost c) n) (λ e. cells c (n .size) (and-right (not (n .below)) (leb (n .size) (cellMost c)) e)) (λ e. none)
+      by-test P (upTo (cellMost c) n) (λ e. cells c (n .size) (and-right (not (isBelow n)) (leb (n .size) (cellMost c)) e)) (λ e. none)
 
   value-case : (id : ℕ) (n : Number) → P (valueAsked id n)
   unfolding valueAsked
   value-case id n =
-      by-test P (n .below && (leb 1 (n .size) && leb (n .size) (2 ^ 31))) (λ e. values id (negℤ (pos (n .size))))
-      (λ e. by-test P (not (n .below) && ltb (n .size) (2 ^ 31)) (λ f. values id (pos (n .size))) (λ f. none))
+      by-test P (isBelow n && leb (n .size) (2 ^ 31)) (λ e. values id (negℤ (pos (n .size))))
+      (λ e. by-test P (not (isBelow n) && ltb (n .size) (2 ^ 31)) (λ f. values id (pos (n .size))) (λ f. none))
 
   code-case : (n : ℕ) → P (exchangeOf n)
   unfolding exchangeOf
@@ -51,7 +51,7 @@ module _ (P : Change → Type 0) (none : P change.Nothing) (cells : (c : Cell) (
   exchange-case : (n : Number) → P (exchangeAsked n)
   unfolding exchangeAsked
   exchange-case n =
-      by-test P (minusOne n) (λ e. exchanges _) (λ e. by-test P (n .below) (λ f. none) (λ f. code-case (n .size)))
+      by-test P (minusOne n) (λ e. exchanges _) (λ e. by-test P (isBelow n) (λ f. none) (λ f. code-case (n .size)))
 
   address-case : (n : Number) → P (addressAsked n)
   unfolding addressAsked
@@ -86,7 +86,7 @@ module _ (P : Change → Type 0) (none : P change.Nothing) (cells : (c : Cell) (
   thing-case : (t : Thing) (n : Number) → P (thingAsked t n)
   unfolding thingAsked
   thing-case t n =
-      by-test P (upTo (rightSize t + 1024) n) (λ e. things t (n .size) (and-right (not (n .below)) (leb (n .size) (rightSize t + 1024)) e)) (λ e. none)
+      by-test P (upTo (rightSize t + 1024) n) (λ e. things t (n .size) (and-right (not (isBelow n)) (leb (n .size) (rightSize t + 1024)) e)) (λ e. none)
 
   part-case : (p : Part) (ns : Numbers) → P (askedOf p ns)
   unfolding askedOf

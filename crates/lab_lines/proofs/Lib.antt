@@ -1,4 +1,2 @@
-pub mod Decimals
-pub mod Pieces
 pub mod Fives
 pub mod Inside

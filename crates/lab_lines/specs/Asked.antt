@@ -19,12 +19,12 @@ use Rattle.lab_sets.specs.declared.Cell.{Cell}
 use Rattle.lab_sets.specs.declared.Thing.{Thing}
 use Rattle.lab_names.specs.declared.Part.{Part}
 use Rattle.lab_names.specs.declared.Part.the-variants.{Unknown, Cell as aCell, Value as aValue, Exchange as anExchange, Address as anAddress, Transfer as aTransfer, Thing as aThing}
-use Rattle.lab_lines.specs.declared.Number.{Number}
-use Rattle.lab_lines.specs.declared.Numbers.{Numbers}
+use Rattle.decimals.specs.declared.Number.{Number}
+use Rattle.decimals.specs.declared.Numbers.{Numbers}
 use Rattle.lab_sets.specs.declared.Change.{Change}
 use Rattle.lab_sets.specs.declared.Change.the-variants.{Nothing, Cell as cell, Value, Exchange, Address, Transfer, Thing as thing}
 use Rattle.lab_names.specs.Names.{partNamed}
-use Rattle.lab_lines.specs.Reading.{noNumber, number, numbersIn, numbersRead}
+use Rattle.decimals.specs.Reading.{noNumber, number, isBelow, numbersIn, numbersRead}
 use Rattle.lab_sets.specs.Ranges.{most, cellMost}
 use Rattle.lab_lines.specs.Ranges.{upTo, minusOne, rightSize}
 
@@ -35,8 +35,8 @@ cellAsked c n = cond (upTo (cellMost c) n) (cell c (n .size)) Nothing
 -- "parameters 32 bits signed"
 unfoldable pub valueAsked : ℕ → Number → Change
 valueAsked id n =
-    cond (n .below && (leb 1 (n .size) && leb (n .size) (2 ^ 31))) (Value id (negℤ (pos (n .size))))
-    (cond (not (n .below) && ltb (n .size) (2 ^ 31)) (Value id (pos (n .size)))
+    cond (isBelow n && leb (n .size) (2 ^ 31)) (Value id (negℤ (pos (n .size))))
+    (cond (not (isBelow n) && ltb (n .size) (2 ^ 31)) (Value id (pos (n .size)))
     Nothing)
 
 -- "`exchange` -1 or 145, 148, 149, 150"
@@ -49,7 +49,7 @@ exchangeOf code =
     Nothing)))
 
 unfoldable pub exchangeAsked : Number → Change
-exchangeAsked n = cond (minusOne n) (Exchange Closed) (cond (n .below) Nothing (exchangeOf (n .size)))
+exchangeAsked n = cond (minusOne n) (Exchange Closed) (cond (isBelow n) Nothing (exchangeOf (n .size)))
 
 -- "`address` -1 or the given address"
 unfoldable pub addressAsked : Number → Change

@@ -9,14 +9,15 @@ use Rattle.blocks.specs.Stores.{capacityOf}
 use Rattle.tables.specs.Tables.{tableSize}
 use Rattle.lab_sets.specs.declared.Thing.{Thing}
 use Rattle.lab_sets.specs.declared.Thing.the-variants.{Room, Store as store, Table as table}
-use Rattle.lab_lines.specs.declared.Number.{Number}
+use Rattle.decimals.specs.declared.Number.{Number}
+use Rattle.decimals.specs.Reading.{isBelow}
 
 -- 0 to a most
 abbrev pub upTo : ℕ → Number → Bool
-upTo most n = not (n .below) && leb (n .size) most
+upTo most n = not (isBelow n) && leb (n .size) most
 
 abbrev pub minusOne : Number → Bool
-minusOne n = n .below && eqb (n .size) 1
+minusOne n = n .minus && eqb (n .size) 1
 
 -- blocks of 256 bytes
 abbrev pub storeSize : Store → ℕ

@@ -1,15 +1,16 @@
 // What a line of `X` or `L` asks for.
-use crate::Number;
-use crate::Numbers;
 use crate::ranges::cell_most;
 use crate::ranges::minus_one;
 use crate::ranges::right_size;
 use crate::ranges::up_to;
-use crate::reading::numbers;
 use crate::transfers::five;
 use crate::transfers::only;
 use blocks::Store;
 use bytes::scan::find;
+use decimals::Number;
+use decimals::Numbers;
+use decimals::below;
+use decimals::numbers_in;
 use lab_names::Part;
 use lab_names::named;
 use lab_sets::Cell;
@@ -37,11 +38,12 @@ fn cell_asked(cell: Cell, n: Number) -> Change
 fn value_asked(id: u8, n: Number) -> Change
     ensures { λ r. ⌜ r ≡ valueAsked id n ⌝ }
 {
-    if n.below & ((1 <= n.size) & (n.size <= 0x8000_0000)) {
+    let negative = below(n);
+    if negative & (n.size <= 0x8000_0000) {
         let low = signed((0x1_0000_0000 - n.size) as u32);
         return Change::Value(id, low);
     }
-    if !n.below & (n.size < 0x8000_0000) {
+    if !negative & (n.size < 0x8000_0000) {
         let high = signed(n.size as u32);
         return Change::Value(id, high);
     }
@@ -72,7 +74,7 @@ fn exchange_asked(n: Number) -> Change
     if minus_one(n) {
         return Change::Exchange(Exchange::Closed);
     }
-    if n.below {
+    if below(n) {
         return Change::Nothing;
     }
     exchange_of(n.size)
@@ -141,5 +143,5 @@ pub fn change(text: &[u8]) -> Change
     ensures { λ r. ⌜ r ≡ changeIn (now (text .entry)) ⌝ }
 {
     let end = name_end(text);
-    asked_of(named(&text[..end]), numbers(&text[end..]))
+    asked_of(named(&text[..end]), numbers_in(&text[end..]))
 }

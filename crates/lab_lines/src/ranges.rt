@@ -1,8 +1,9 @@
 // How large each part and each lent thing may be asked for.
-use crate::Number;
 use blocks::BLOCK;
 use blocks::Store;
 use blocks::capacity;
+use decimals::Number;
+use decimals::below;
 use lab_sets::Cell;
 use lab_sets::Field;
 use lab_sets::Thing;
@@ -18,13 +19,13 @@ ghost use Rattle.lab_lines.specs.Ranges.{upTo, minusOne, storeSize, righ
 pub fn up_to(n: Number, most: u64) -> bool
     ensures { λ r. ⌜ r ≡ upTo most n ⌝ }
 {
-    !n.below & (n.size <= most)
+    !below(n) & (n.size <= most)
 }
 
 pub fn minus_one(n: Number) -> bool
     ensures { λ r. ⌜ r ≡ minusOne n ⌝ }
 {
-    n.below & (n.size == 1)
+    n.minus & (n.size == 1)
 }
 
 // Limit and remaining: 16 bits of the priority store, 32 of the ordinary one.

@@ -1,8 +1,8 @@
 // A transfer as five numbers: command, reading, N, words along, start.
-use crate::Number;
-use crate::Numbers;
 use crate::ranges::up_to;
-use crate::reading::NONE;
+use decimals::NONE;
+use decimals::Number;
+use decimals::Numbers;
 use lab_sets::Change;
 use tables::Header;
 use tables::Table;
@@ -55,12 +55,12 @@ pub fn only(numbers: Numbers) -> Number
         return list[0];
     }
     Number {
-        below: false,
+        minus: false,
         size: NONE,
     }
 }
 
-fn all_bytes(list: [Number; 5]) -> bool
+fn all_bytes(list: [Number; 9]) -> bool
     ensures { λ r. ⌜ r ≡ allBytes list ⌝ }
 {
     let a = list[0];
@@ -71,7 +71,7 @@ fn all_bytes(list: [Number; 5]) -> bool
     up_to(a, 255) & (up_to(b, 255) & (up_to(c, 255) & (up_to(d, 255) & up_to(e, 255))))
 }
 
-pub fn five(list: [Number; 5]) -> Change
+pub fn five(list: [Number; 9]) -> Change
     ensures { λ r. ⌜ r ≡ fiveAsked list ⌝ }
 {
     if !all_bytes(list) {

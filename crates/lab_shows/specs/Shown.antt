@@ -6,8 +6,9 @@ use mathlib.Core.List.{List, [], _∷_, _++_, map}
 use lib.IntN.{ℤ, pos, negsuc}
 use lib.ListN.{take}
 use Rattle.crc.specs.Crc.{crcOf}
+use Rattle.hex.specs.Digits.{wordDigits}
 use Rattle.numbers.specs.Numbers.{highFirst}
-use Rattle.items.specs.Characters.{newline}
+use Rattle.items.specs.Characters.{newline, space}
 use Rattle.orders.specs.Command.{tableNumber}
 use Rattle.packets.specs.declared.Fields.{Fields}
 use Rattle.tables.specs.declared.Transfer.{Transfer}
@@ -19,7 +20,7 @@ use Rattle.tables.specs.Tables.{three}
 use Rattle.rules.specs.declared.Pod.{Pod}
 use Rattle.rules.specs.State.{Lent}
 use Rattle.rules.specs.Obey.{exchangeCode}
-use Rattle.lab_shows.specs.Decimal.{spelled, spelledWords}
+use Rattle.decimals.specs.Printing.{spelled, naturals}
 
 -- what is lent, of its parts
 abbrev pub lentOf : List ℕ → List ℕ → List ℕ → List ℕ → List ℕ → List ℕ → Lent
@@ -52,9 +53,6 @@ placeNumbers p = p .five ∷ p .six ∷ p .seven ∷ []
 abbrev pub addressNumber : Given → ℤ
 addressNumber Nowhere = negsuc 0
 addressNumber (At a) = pos a
-
-abbrev pub naturals : List ℕ → List ℤ
-naturals l = map pos l
 
 -- "initialised" and the fields; "the twelve values; the twelve marks"; the exchange, message error, the transfer and the three places; the
 -- address; "oldest and waiting of both stores; gathered; timeouts"
@@ -98,6 +96,11 @@ shownChecks p l =
     ∷ crcOf (wordBytes (l .tables .six))
     ∷ crcOf (wordBytes (l .tables .seven))
     ∷ []
+
+-- "four hex digits each"
+unfoldable pub spelledWords : List ℕ → List ℕ
+spelledWords [] = []
+spelledWords (w ∷ ws) = space ∷ (wordDigits w ++ spelledWords ws)
 
 -- "`V` and these, each after one space"
 unfoldable pub shownText : Pod → Lent → List ℕ

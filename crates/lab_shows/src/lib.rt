@@ -1,6 +1,5 @@
 // The line `V`: the state and the memory, shown.
 mod checks;
-mod digits;
 mod parts;
 mod runs;
 mod showing;

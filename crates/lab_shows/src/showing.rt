@@ -7,10 +7,10 @@ use crate::parts::last_numbers;
 use crate::parts::marks;
 use crate::parts::port_numbers;
 use crate::runs::put_address;
-use crate::runs::put_run;
 use crate::runs::put_values;
 use crate::runs::put_words;
 use crc::crc_of;
+use decimals::put_run;
 use items::append;
 use rules::Pod;
 ghost use mathlib.Core.Path.{_≡_};
@@ -18,7 +18,7 @@ ghost use Prim.Native.Nat.{_+_, _≤_};
 ghost use lib.ListN.{length};
 ghost use Rattle.tables.specs.Tables.{three};
 ghost use Rattle.rules.specs.State.{Lent};
-ghost use Rattle.lab_shows.specs.Decimal.{spelled, Written};
+ghost use Rattle.decimals.specs.Printing.{spelled, Written};
 ghost use Rattle.lab_shows.specs.Shown.{frontNumbers, backNumbers, shownChecks, shownText, lentOf};
 
 // The numbers of the state up to the marks of the parameters ..

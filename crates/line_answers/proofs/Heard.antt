@@ -1,41 +1,21 @@
 -- What is read of a text is heard again from the memory in which its bytes and words lie.
 -- Assumes nothing.
-use Prim.Native.Nat.{ℕ, _+_, _*_, _≤_}
+use Prim.Native.Nat.{ℕ, _*_, _≤_}
 use native.Mathlib.Omega.{arith}
 use mathlib.Core.Path.{_≡_, refl, ap}
 use mathlib.Core.Bool.{_||_}
-use mathlib.Core.List.{List, [], _∷_, _++_}
+use mathlib.Core.List.{List}
 use lib.Dec.{ltb, eqb}
 use lib.ListN.{length, take, drop, getD, length-drop}
-use lib.Seq.{sets, sets-eq, take-at}
-use Rattle.rows.proofs.Bool.{split, by-test}
+use lib.Seq.{sets}
+use Rattle.rows.proofs.Bool.{by-test}
 use Rattle.blocks.specs.declared.Store.{Store}
 use Rattle.blocks.specs.declared.Store.the-variants.{Priority, Ordinary}
-use Rattle.items.specs.Text.{ItemsRead, bytesIn, wordsIn, byteItem, wordItem}
+use Rattle.items.specs.Text.{ItemsRead, bytesIn, wordsIn}
 use Rattle.lines.specs.Letters.{letterP, letterD, letterB, letterC, letterW, letterR, letterS, letterA, letterI, letterT, letterZ, smallP, smallO}
 use Rattle.lines.specs.Asked.{Asked, Asking, packet, put, samples, other, packing, putting, sampling, isPut, oneByte, packetIn, putIn, samplesIn, bareAsked, wordAsked, byteAsked, shortAsked, lineOf, sayLine}
+use Rattle.lines.proofs.Stored.{stored, bytes-most, words-most}
 use Rattle.line_calls.specs.Calls.{heardLine}
-
--- what was stored from the start is what the first ones are
-stored : (vs l : List ℕ) → length vs ≤ length l → take (length vs) (sets l 0 vs) ≡ vs
-stored vs l h = rw (sets-eq vs l 0 (omega arith)) (take-at vs (drop (0 + length vs) l) (length vs) refl)
-
--- a text of items is at least so long
-bytes-most : (t : List ℕ) → 3 * length (bytesIn t .values) ≤ length t
-unfolding bytesIn
-bytes-most [] = omega arith
-bytes-most (s ∷ []) = omega arith
-bytes-most (s ∷ h ∷ []) = omega arith
-bytes-most (s ∷ h ∷ l ∷ rest) = split (ltb (byteItem s h l) 256) (λ e. rw e (omega (arith, bytes-most rest))) (λ e. rw e (omega arith))
-
-words-most : (t : List ℕ) → 5 * length (wordsIn t .values) ≤ length t
-unfolding wordsIn
-words-most [] = omega arith
-words-most (s ∷ []) = omega arith
-words-most (s ∷ a ∷ []) = omega arith
-words-most (s ∷ a ∷ b ∷ []) = omega arith
-words-most (s ∷ a ∷ b ∷ c ∷ []) = omega arith
-words-most (s ∷ a ∷ b ∷ c ∷ d ∷ rest) = split (ltb (wordItem s a b c d) 65536) (λ e. rw e (omega (arith, words-most rest))) (λ e. rw e (omega arith))
 
 -- a run of bytes, whole or not
 packing-heard : (r : ItemsRead) (bs ws : List ℕ) → length (r .values) ≤ length bs

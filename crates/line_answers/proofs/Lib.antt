@@ -1,2 +1,2 @@
 pub mod Heard
-pub mod Turning
+pub mod Sized

@@ -1,13 +1,10 @@
 -- What a line is to a program.
 -- Assumes nothing.
-use Prim.Native.Nat.{ℕ, _-_}
+use Prim.Native.Nat.{ℕ}
 use mathlib.Core.Bool.{Bool, false}
 use mathlib.Core.List.{List, []}
 use mathlib.Core.Option.{Option, none, some}
-use lib.ListN.{take, drop}
 use Rattle.rules.specs.World.{Call}
-use Rattle.lines.specs.declared.Found.{Found}
-use Rattle.lines.specs.declared.Found.the-variants.{Here, Held, Long, More}
 use Rattle.lines.specs.Asked.{Asked, Asking, packetIn, lineOf}
 use Rattle.line_calls.specs.declared.Sizes.{Sizes}
 use Rattle.line_calls.specs.Calls.{callOf}
@@ -15,13 +12,6 @@ use Rattle.line_calls.specs.Memory.{rightSizes}
 use Rattle.lab_calls.specs.Own.{isOwn}
 use Rattle.line_answers.specs.declared.Program.{Program}
 use Rattle.line_answers.specs.declared.Program.the-variants.{Session, Console, Lab}
-
--- the text of a line that was found: a part of the piece, or what is held. A line that is too long is read as an empty one
-unfoldable pub textOf : Found → List ℕ → List ℕ → List ℕ
-textOf (Here from end) piece line = take (end - from) (drop from piece)
-textOf (Held n) piece line = take n line
-textOf Long piece line = []
-textOf More piece line = []
 
 -- what a text asks: of session a packet or nothing, of the console what its table says, and of lab too
 unfoldable pub askingOf : Program → List ℕ → Asking

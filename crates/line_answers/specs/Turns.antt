@@ -7,10 +7,8 @@ use mathlib.Core.List.{List}
 use lib.Dec.{ltb, leb}
 use lib.ListN.{length}
 use Rattle.rules.specs.declared.Pod.{Pod}
-use Rattle.lines.specs.declared.Cursor.{Cursor}
-use Rattle.lines.specs.declared.Found.{Found}
-use Rattle.lines.specs.declared.Found.the-variants.{Here, Held, Long, More}
-use Rattle.lines.specs.Cut.{before, cutOf, heldLine}
+use Rattle.lines.specs.Cut.{before}
+use Rattle.lines.specs.Turns.{Stand, stand}
 use Rattle.answers.specs.Answers.{lineText}
 use Rattle.line_calls.specs.declared.Sizes.{Sizes}
 use Rattle.line_calls.specs.declared.LineSaid.{LineSaid}
@@ -21,7 +19,7 @@ use Rattle.lab_calls.specs.Own.{ownOf, shownIn, withLoad, OwnAnswered}
 use Rattle.line_answers.specs.declared.Program.{Program}
 use Rattle.line_answers.specs.declared.Between.{Between}
 use Rattle.line_answers.specs.declared.Standing.{Standing}
-use Rattle.line_answers.specs.Lines.{textOf, askingOf, ownIn, sizesAfter}
+use Rattle.line_answers.specs.Lines.{askingOf, ownIn, sizesAfter}
 
 -- no size is over that of the loop's arrays
 pub record Within (s : Sizes) : Type 0 where
@@ -59,38 +57,18 @@ pub data TextAnswered (p : Program) (t : List ℕ) (b b′ : Between) (m m′ : 
   own : ownIn p t ≡ true → OwnText t b b′ m m′ o o′ → TextAnswered p t b b′ m m′ o o′
   call : ownIn p t ≡ false → CallAnswered p t b b′ m m′ o o′ → TextAnswered p t b b′ m m′ o o′
 
--- all that a turn may change: where the next line starts and what is held of it; what stands between two lines; the memory that is lent,
--- and the output
-pub record Stand : Type 0 where
-  pub standing : Standing
-  pub line : List ℕ
+-- all that a line may change: what stands between two lines, the memory that is lent, and the output
+pub record Rest : Type 0 where
+  pub between : Between
   pub memory : Memory
   pub out : List ℕ
 
-abbrev pub stand : Standing → List ℕ → Memory → List ℕ → Stand
-stand s l m o = record { standing = s; line = l; memory = m; out = o }
+-- a text answered from one such to the next
+abbrev pub AnswersText : Program → List ℕ → Rest → Rest → Type 0
+AnswersText p text s t = TextAnswered p text (s .between) (t .between) (s .memory) (t .memory) (s .out) (t .out)
 
--- a text answered from one stand to the next
-abbrev pub AnswersText : Program → List ℕ → Stand → Stand → Type 0
-AnswersText p text s t = TextAnswered p text (s .standing .between) (t .standing .between) (s .memory) (t .memory) (s .out) (t .out)
-
--- a line that was found is answered; where none ends in the piece nothing is
-abbrev pub FoundAnswered : Program → Found → List ℕ → Stand → Stand → Type 0
-FoundAnswered p (Here a b) piece s t = AnswersText p (textOf (Here a b) piece (t .line)) s t
-FoundAnswered p (Held n) piece s t = AnswersText p (textOf (Held n) piece (t .line)) s t
-FoundAnswered p Long piece s t = AnswersText p (textOf Long piece (t .line)) s t
-FoundAnswered p More piece s t = (t .standing .between ≡ s .standing .between) × (t .memory ≡ s .memory) × (t .out ≡ s .out)
-
--- a turn: the next line of the piece, as lines are cut, and its answer
-pub record Turn (p : Program) (piece : List ℕ) (s t : Stand) : Type 0 where
-  pub cursor : t .standing .cursor ≡ cutOf piece (s .standing .cursor) .cursor
-  pub line : t .line ≡ heldLine piece (s .standing .cursor) (s .line)
-  pub answered : FoundAnswered p (cutOf piece (s .standing .cursor) .found) piece s t
-
--- turn after turn
-pub data Turns (p : Program) (piece : List ℕ) : Stand → Stand → Type 0 where
-  start : (s : Stand) → Turns p piece s s
-  another : (s t u : Stand) → Turns p piece s t → Turn p piece t u → Turns p piece s u
+abbrev pub standing : Standing → List ℕ → Memory → List ℕ → Stand Rest
+standing s l m o = stand (s .cursor) l (record { between = s .between; memory = m; out = o })
 
 -- the bounds of the loop: the cursor within the piece, no line held that is too long, no size over that of the arrays
 pub record Fine (s : Standing) (have : ℕ) : Type 0 where

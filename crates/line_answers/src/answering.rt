@@ -5,15 +5,16 @@ use crate::Standing;
 use crate::asking::asked;
 use crate::asking::next_sizes;
 use crate::asking::own;
-use crate::asking::text;
 use lab_calls::own_line;
 use line_calls::answer;
 use lines::Found;
 use lines::next_line;
+use lines::text;
 ghost use Prim.Native.Nat.{_+_, _≤_};
 ghost use lib.ListN.{length};
 ghost use Rattle.line_calls.specs.Memory.{memory};
-ghost use Rattle.line_answers.specs.Turns.{Within, CallAnswered, TextAnswered, stand, Turns, Fine, Spent};
+ghost use Rattle.lines.specs.Turns.{Turns};
+ghost use Rattle.line_answers.specs.Turns.{Within, CallAnswered, TextAnswered, AnswersText, standing, Fine, Spent};
 
 // The longest line of output has 1,121 characters: with fewer left, what is gathered is written first.
 const ENOUGH: usize = 64415;
@@ -135,7 +136,7 @@ pub fn gather(
     program: Program,
     piece: &[u8],
     line: &mut [u8; 196606],
-    standing: Standing,
+    start: Standing,
     bytes: &mut [u8; 65536],
     words: &mut [u16; 65536],
     room: &mut [u8; 1284],
@@ -147,14 +148,14 @@ pub fn gather(
     load: &mut [u16; 64],
     out: &mut [u8; 65536],
 ) -> Standing
-    requires { ⌜ Fine standing (length (now piece)) ⌝ }
+    requires { ⌜ Fine start (length (now piece)) ⌝ }
     requires { ⌜ length (now piece) ≤ 65536 ⌝ }
-    ensures { λ r. ⌜ Turns program (now (piece .entry)) (stand standing (now (line .entry)) (memory (now (room .entry)) (now (priority .entry)) (now (ordinary .entry)) (now (five .entry)) (now (six .entry)) (now (seven .entry)) (now (load .entry))) (now (out .entry))) (stand r (now (line .exit)) (memory (now (room .exit)) (now (priority .exit)) (now (ordinary .exit)) (now (five .exit)) (now (six .exit)) (now (seven .exit)) (now (load .exit))) (now (out .exit))) ⌝ }
+    ensures { λ r. ⌜ Turns (AnswersText program) (now (piece .entry)) (standing start (now (line .entry)) (memory (now (room .entry)) (now (priority .entry)) (now (ordinary .entry)) (now (five .entry)) (now (six .entry)) (now (seven .entry)) (now (load .entry))) (now (out .entry))) (standing r (now (line .exit)) (memory (now (room .exit)) (now (priority .exit)) (now (ordinary .exit)) (now (five .exit)) (now (six .exit)) (now (seven .exit)) (now (load .exit))) (now (out .exit))) ⌝ }
     ensures { λ r. ⌜ Fine r (length (now (piece .entry))) ⌝ }
     ensures { λ r. ⌜ Spent r (length (now (piece .entry))) ⌝ }
 {
-    let mut cursor = standing.cursor;
-    let mut between = standing.between;
+    let mut cursor = start.cursor;
+    let mut between = start.between;
     while (cursor.from < piece.len()) & (between.at <= ENOUGH) {
         let cut = next_line(piece, line, cursor);
         cursor = cut.cursor;

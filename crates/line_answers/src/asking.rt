@@ -3,31 +3,13 @@ use crate::Program;
 use lab_calls::is_own;
 use line_calls::Sizes;
 use line_calls::right_sizes;
-use lines::Found;
 use lines::Line;
 ghost use mathlib.Core.Path.{_≡_};
 ghost use mathlib.Core.List.{List};
 ghost use Prim.Native.Nat.{ℕ, _≤_};
 ghost use lib.ListN.{length};
-ghost use Rattle.lines.specs.Cut.{foundIn};
 ghost use Rattle.line_calls.specs.Calls.{heardLine};
-ghost use Rattle.line_answers.specs.Lines.{textOf, askingOf, ownIn, sizesAfter};
-
-// The text of a line: a part of the piece, or what is held of it. One that is too long is read as an empty one: both are
-// another line.
-pub fn text<'a>(found: Found, piece: &'a [u8], line: &'a [u8]) -> &'a [u8]
-    requires { ⌜ foundIn found (length (now piece)) ⌝ }
-    requires { ⌜ (length (now piece) ≤ 196606) × (length (now line) ≤ 196606) ⌝ }
-    ensures { λ r. ⌜ now r ≡ textOf found (now (piece .entry)) (now (line .entry)) ⌝ }
-    ensures { λ r. ⌜ length (now r) ≤ 196606 ⌝ }
-{
-    match found {
-        Found::Here(from, end) => &piece[from..end],
-        Found::Held(n) => items::front(line, n),
-        Found::Long => items::front(line, 0),
-        Found::More => items::front(line, 0),
-    }
-}
+ghost use Rattle.line_answers.specs.Lines.{askingOf, ownIn, sizesAfter};
 
 // What a text asks of a program.
 pub fn asked(

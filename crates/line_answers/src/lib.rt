@@ -4,7 +4,6 @@ mod asking;
 
 pub use answering::answered;
 pub use answering::gather;
-pub use asking::text;
 use line_calls::Sizes;
 use lines::Cursor;
 use rules::Pod;

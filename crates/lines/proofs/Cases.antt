@@ -1,6 +1,6 @@
 -- What a line asks, case by case, in plain facts about its characters.
 -- Assumes nothing.
-use Prim.Native.Nat.{ℕ, _-_, _<_}
+use Prim.Native.Nat.{ℕ, _+_, _-_, _<_}
 use native.Mathlib.Omega.{arith}
 use mathlib.Core.Path.{_≡_, refl, sym, ap, _∙_}
 use mathlib.Core.Bool.{and-false}
@@ -116,10 +116,12 @@ not-three : (t : List ℕ) → (length t ≡ 3 → ⊥) → oneByte t ≡ 256
 unfolding oneByte
 not-three t n = rw (ne-eqb (length t) 3 n)
 
+-- three characters that a text does not have are no byte
+pub no-byte : (t : List ℕ) (i : ℕ) → length t < i + 3 → oneByte (take 3 (drop i t)) ≡ 256
+no-byte t i h = not-three (take 3 (drop i t)) (λ e. omega (arith, length-take 3 (drop i t), length-drop i t))
+
 pub samples-short : (t : List ℕ) → length t < 4 → samplesIn t ≡ unasked
-samples-short t h =
-    let z : oneByte (take 3 (drop 1 t)) ≡ 256 = not-three (take 3 (drop 1 t)) (λ e. omega (arith, length-take 3 (drop 1 t), length-drop 1 t)) in
-    samples-no t (omega arith)
+samples-short t h = let z = no-byte t 1 (omega arith) in samples-no t (omega arith)
 
 pub samples-is : (n : ℕ) (t l k : List ℕ) (r : ItemsRead) (i : Items) (x : Line) → samplesIn t ≡ sampling n r
     → i ≡ itemsOf r → k ≡ sets l 0 (r .values) → x ≡ counted i (Samples n) → Heard (samplesIn t .asked) (samplesIn t .words) x l k

@@ -63,3 +63,10 @@ foundIn (Here a b) n = (a ≤ b) × (b ≤ n)
 foundIn (Held k) n = k ≤ longest
 foundIn Long n = Unit {0}
 foundIn More n = Unit {0}
+
+-- the text of a line that was found: a part of the piece, or what is held. A line that is too long is read as an empty one
+unfoldable pub textOf : Found → List ℕ → List ℕ → List ℕ
+textOf (Here from end) piece line = take (end - from) (drop from piece)
+textOf (Held n) piece line = take n line
+textOf Long piece line = []
+textOf More piece line = []

@@ -1,3 +1,4 @@
 pub mod Letters
 pub mod Asked
 pub mod Cut
+pub mod Turns

@@ -13,7 +13,7 @@ ghost use lib.Seq.{sets};
 ghost use Rattle.lines.specs.Asked.{oneByte, oneWord, packetIn, putIn, samplesIn, bareAsked, wordAsked, byteAsked, shortAsked, lineOf, sayLine, counted};
 
 // Exactly one byte; 256 where the text is none.
-fn one_byte(text: &[u8]) -> u16
+pub fn one_byte(text: &[u8]) -> u16
     ensures { λ r. ⌜ r ≡ oneByte (now (text .entry)) ⌝ }
 {
     if text.len() == 3 {

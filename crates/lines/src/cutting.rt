@@ -7,7 +7,7 @@ ghost use mathlib.Core.Path.{_≡_};
 ghost use mathlib.Core.Bool.{true};
 ghost use Prim.Native.Nat.{ℕ, _+_, _≤_};
 ghost use lib.ListN.{length, drop};
-ghost use Rattle.lines.specs.Cut.{before, heldOf, keptOf, lastOf, cutOf, heldLine, foundIn};
+ghost use Rattle.lines.specs.Cut.{before, heldOf, keptOf, lastOf, cutOf, heldLine, foundIn, textOf};
 
 // The longest line: `P` and 65,535 bytes.
 pub const LONGEST: usize = 196606;
@@ -119,5 +119,21 @@ pub fn last(held: usize) -> Found
         Found::Long
     } else {
         Found::Held(held)
+    }
+}
+
+// The text of a line: a part of the piece, or what is held of it. One that is too long is read as an empty one: both are
+// another line.
+pub fn text<'a>(found: Found, piece: &'a [u8], line: &'a [u8]) -> &'a [u8]
+    requires { ⌜ foundIn found (length (now piece)) ⌝ }
+    requires { ⌜ (length (now piece) ≤ 196606) × (length (now line) ≤ 196606) ⌝ }
+    ensures { λ r. ⌜ now r ≡ textOf found (now (piece .entry)) (now (line .entry)) ⌝ }
+    ensures { λ r. ⌜ length (now r) ≤ 196606 ⌝ }
+{
+    match found {
+        Found::Here(from, end) => &piece[from..end],
+        Found::Held(n) => items::front(line, n),
+        Found::Long => items::front(line, 0),
+        Found::More => items::front(line, 0),
     }
 }

@@ -2,12 +2,14 @@
 mod asking;
 mod cutting;
 
+pub use asking::one_byte;
 pub use asking::packet_line;
 pub use asking::read_line;
 use blocks::Store;
 pub use cutting::last;
 pub use cutting::line_end;
 pub use cutting::next_line;
+pub use cutting::text;
 
 // A line of the console's table. Bytes and words lie in lent memory, so many from its start.
 pub enum Line {

@@ -5,7 +5,7 @@ use native.Mathlib.Nat.{zero-add}
 use mathlib.Core.Path.{_≡_, refl, sym, ap, _∙_}
 use mathlib.Core.List.{List, [], _∷_, _++_, append-assoc, append-nil}
 use lib.ListN.{length, getD, take, drop, set, length-take, length-drop, drop-of-length-le, List·getD-append}
-use lib.Seq.{sets, sets-eq, length-take-le, getD-append-add, take-all, take-length, drop-drop, getD-set-other}
+use lib.Seq.{sets, sets-eq, length-take-le, getD-append-add, take-at, take-all, take-length, drop-drop, getD-set-other}
 
 -- a run of stores in two parts
 pub sets-append : (l : List ℕ) (i : ℕ) (xs ys : List ℕ) → sets l i (xs ++ ys) ≡ sets (sets l i xs) (i + length xs) ys
@@ -28,6 +28,10 @@ pub sets-inside : (vs l : List ℕ) (i j : ℕ) → j < length vs → i + length
 sets-inside vs l i j h k =
     let front : length (take i l) ≡ i = length-take-le i l (omega arith) in
     rw (sets-eq vs l i k, append-assoc, ap (λ (m : ℕ). m + j) (sym front)) (getD-append-add (take i l) (vs ++ drop (i + length vs) l) j 0 ∙ List·getD-append vs (drop (i + length vs) l) 0 j h)
+
+-- a run from the start of a list that holds it can be taken from there
+pub sets-taken : (vs l : List ℕ) (n : ℕ) → length vs ≡ n → length vs ≤ length l → take n (sets l 0 vs) ≡ vs
+sets-taken vs l n e h = rw (sets-eq vs l 0 (omega arith)) (take-at vs (drop (0 + length vs) l) n e)
 
 -- the part from n to the end, lent, written from its start and given back
 pub lent : (l ys vs : List ℕ) (n k : ℕ) → n + length vs ≤ length l → k ≡ length l - n → ys ≡ sets (take k (drop n l)) 0 vs

@@ -7,3 +7,4 @@ pub mod First
 pub mod Sendable
 pub mod Sent
 pub mod Laws
+pub mod Damage

@@ -28,6 +28,16 @@ answer-length f s body =
     length-append (f ∷ s ∷ body) (highFirst 2 (crcOf (f ∷ s ∷ body)))
     ∙ omega (arith, high-first-length 2 (crcOf (f ∷ s ∷ body)))
 
+-- an answer without a body, once it is written
+pub bare-answered : (room : List ℕ) (f s : ℕ) (two room′ : List ℕ) (n : ℕ) → two ≡ sets room 0 (f ∷ s ∷ [])
+    → (room′ ≡ sets two 2 (highFirst 2 (crcOf (take 2 two)))) × (n ≡ 2 + 2) → 2 ≤ length room → Written (answerOf f s []) room room′ n
+unfolding answerOf
+bare-answered room f s two room′ n et c h =
+    record {
+      room = c .0 ∙ rw et (closed-there room (f ∷ s ∷ []) 2 (omega arith) h);
+      count = omega (arith, c .1, answer-length f s []);
+    }
+
 -- every answer, once it is written. two is the room with its first two bytes, ys its part from byte 2 on with the body
 pub answered : (room : List ℕ) (f s : ℕ) (body two ys room′ : List ℕ) (k end n : ℕ)
     → two ≡ sets room 0 (f ∷ s ∷ []) → k ≡ length two - 2 → ys ≡ sets (take k (drop 2 two)) 0 body

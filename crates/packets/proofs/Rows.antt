@@ -2,10 +2,10 @@
 use Prim.Native.Nat.{ℕ}
 use mathlib.Core.Path.{_≡_, refl}
 use mathlib.Core.List.{List, [], _∷_}
-use mathlib.Core.Bool.{true, false, not, or-false}
+use mathlib.Core.Bool.{true, false, not, or-false, false≢true}
 use borrow.Author.Tests.{ne-eqb, eqb-true}
 use lib.Dec.{eqb}
-use Rattle.rows.proofs.Bool.{split}
+use Rattle.rows.proofs.Bool.{split, by-test}
 use Rattle.packets.specs.Commands.{CommandRow, commandRows, noCommandRow, findIn, listedIn, codeRow, isCode}
 
 -- a byte that is none of the eight codes has no row
@@ -22,17 +22,32 @@ unfolding isCode listedIn
 last-code k t a b c d e f g =
     eqb-true k 0x9F (simp (ne-eqb k 0x90 a, ne-eqb k 0x91 b, ne-eqb k 0x92 c, ne-eqb k 0x93 d, ne-eqb k 0x94 e, ne-eqb k 0x95 f, ne-eqb k 0x96 g, or-false (eqb k 0x9F)) at t)
 
--- no command has 0 bytes
-abbrev Filled : List CommandRow → Type 0
-Filled [] = Unit {0}
-Filled (r ∷ rs) = (eqb (r .bytes) 0 ≡ false) × Filled rs
+-- what each row has, the row of a code has
+abbrev pub Each : (CommandRow → Type 0) → List CommandRow → Type 0
+Each P [] = Unit {0}
+Each P (r ∷ rs) = P r × Each P rs
 
-found : (rs : List CommandRow) (k : ℕ) → Filled rs → listedIn rs k ≡ not (eqb (findIn rs k .bytes) 0)
+listed : (P : CommandRow → Type 0) (rs : List CommandRow) (k : ℕ) → Each P rs → listedIn rs k ≡ true → P (findIn rs k)
 unfolding listedIn findIn
-found [] k f = refl
-found (r ∷ rs) k f = split (eqb k (r .code)) (λ e. simp (e, f .0)) (λ e. simp e (found rs k (f .1)))
+listed P [] k e h = absurd (false≢true h)
+listed P (r ∷ rs) k e h = by-test P (eqb k (r .code)) (λ t. e .0) (λ t. listed P rs k (e .1) (simp t at h))
 
--- a byte is a code where its row has bytes
+pub of-code : (P : CommandRow → Type 0) (k : ℕ) → Each P commandRows → isCode k ≡ true → P (codeRow k)
+unfolding isCode codeRow
+of-code P k = listed P commandRows k
+
+-- a number that is 0 in no row and 0 where there is none tells whether a byte is a code
+found : (n : CommandRow → ℕ) (rs : List CommandRow) (k : ℕ) → n noCommandRow ≡ 0 → Each (λ r. eqb (n r) 0 ≡ false) rs
+    → listedIn rs k ≡ not (eqb (n (findIn rs k)) 0)
+unfolding listedIn findIn
+found n [] k z f = rw z
+found n (r ∷ rs) k z f = split (eqb k (r .code)) (λ e. simp (e, f .0)) (λ e. simp e (found n rs k z (f .1)))
+
+-- so do its packet's bytes, and so do its answer's
 pub code-is : (k : ℕ) → isCode k ≡ not (eqb (codeRow k .bytes) 0)
 unfolding isCode codeRow
-code-is k = found commandRows k (refl, (refl, (refl, (refl, (refl, (refl, (refl, (refl, tt))))))))
+code-is k = found (λ r. r .bytes) commandRows k refl (refl, (refl, (refl, (refl, (refl, (refl, (refl, (refl, tt))))))))
+
+pub code-answered : (k : ℕ) → isCode k ≡ not (eqb (codeRow k .answer) 0)
+unfolding isCode codeRow
+code-answered k = found (λ r. r .answer) commandRows k refl (refl, (refl, (refl, (refl, (refl, (refl, (refl, (refl, tt))))))))

@@ -1,9 +1,12 @@
-// The packet port's paper side: what a packet is read as, and how each answer is written. Nothing of the pod's state is here.
+// The packet port's paper side: what a packet is read as, and how each answer and each command is written. Nothing of the pod's
+// state is here.
 mod reading;
 mod writing;
 
 pub use reading::bounded;
+pub use reading::crc_right;
 pub use reading::read;
+pub use writing::write_command;
 pub use writing::write_data;
 pub use writing::write_done;
 pub use writing::write_error;
@@ -12,6 +15,9 @@ pub use writing::write_value;
 
 // The longest answer, a block's, and so the least room.
 pub const ROOM: usize = 260;
+
+// The longest command, an Initialise or an Update.
+pub const COMMAND: usize = 25;
 
 // What Initialise and Update carry.
 pub struct Fields {

@@ -90,7 +90,7 @@ fn command_in(code: u8, packet: &[u8]) -> Command
 }
 
 // Whether the last two bytes are the CRC of those before them.
-fn crc_right(packet: &[u8]) -> bool
+pub fn crc_right(packet: &[u8]) -> bool
     requires { ⌜ 2 ≤ length (now packet) ⌝ }
     ensures { λ r. ⌜ r ≡ crcRight (now (packet .entry)) ⌝ }
 {

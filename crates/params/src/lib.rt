@@ -1,9 +1,10 @@
 // The twelve parameters of the pod: their rows as one constant table, and the state by value.
 ghost use mathlib.Core.Path.{_≡_};
+ghost use mathlib.Core.Bool.{_&&_};
 ghost use Prim.Native.Nat.{_<_};
 ghost use lib.ListN.{getD};
-ghost use Rattle.params.specs.Rows.{paramRows, noParamRow};
-ghost use Rattle.params.specs.Rules.{inRow, inSpan, startParams, writeOf, valueRead, readingSaid, missingOf, soundParams};
+ghost use Rattle.params.specs.Rows.{paramRows, noParamRow, paramRow};
+ghost use Rattle.params.specs.Rules.{isId, inRow, inSpan, startParams, writeOf, valueRead, readingSaid, missingOf, soundParams};
 
 pub struct ParamRow {
     pub least: i32,
@@ -122,6 +123,23 @@ fn in_span(p: Params) -> bool
     ensures { λ b. ⌜ b ≡ inSpan p ⌝ }
 {
     p.values[0] < p.values[1]
+}
+
+// Whether a byte is a parameter's id.
+pub fn is_id(id: u8) -> bool
+    ensures { λ r. ⌜ r ≡ isId id ⌝ }
+{
+    (1 <= id) & (id <= 12)
+}
+
+// Whether a byte is an id and a value is in its row; that 1 stays below 2 is another matter.
+pub fn in_bounds(id: u8, value: i32) -> bool
+    ensures { λ r. ⌜ r ≡ (isId id && inRow (paramRow id) value) ⌝ }
+{
+    match id {
+        1..=12 => in_row(row_at((id - 1) as usize), value),
+        _ => false,
+    }
 }
 
 // All parameters at their starts, nothing written.

@@ -4,18 +4,19 @@ use Prim.Native.Nat.{ℕ, _≤_}
 use native.Mathlib.Nat.{zero-add}
 use native.Mathlib.Omega.{arith}
 use mathlib.Core.Path.{_≡_, refl, ap, _∙_}
-use mathlib.Core.Bool.{true, not, _&&_, _||_, cond, and-true}
+use mathlib.Core.Bool.{true, false, not, _&&_, _||_, cond, and-true}
 use mathlib.Core.List.{List, [], _∷_, _++_}
 use lib.Dec.{eqb, ltb}
 use lib.ListN.{length, getD, take, drop}
-use lib.Seq.{sets, sets-eq, take-at, drop-at}
+use lib.Seq.{sets, sets-eq, drop-at}
 use borrow.Author.Tests.{eqb-true, eqb-false}
 use Rattle.rows.specs.Rows.{Clear, past, gave}
 use Rattle.rows.proofs.Bool.{never, and-left, and-right, and-false, not-false, not-true}
 use Rattle.rows.proofs.Laws.{clear-head, clear-rest, never-both, first-one}
+use Rattle.numbers.proofs.Stores.{sets-taken}
 use Rattle.blocks.specs.declared.Store.{Store}
 use Rattle.blocks.specs.declared.Store.the-variants as store
-use Rattle.blocks.specs.Stores.{capacityOf, storeSized}
+use Rattle.blocks.specs.Stores.{capacityOf, storeSized, oldestOf}
 use Rattle.blocks.proofs.Laws.{oldest-whole}
 use Rattle.packets.specs.declared.Command.{Command}
 use Rattle.packets.specs.declared.Command.the-variants.{Initialise, Status, Update, Write, Read, Priority, Data, Shutdown}
@@ -29,7 +30,7 @@ use Rattle.tables.specs.Tables.{tablesSized}
 use Rattle.rules.specs.declared.Pod.{Pod}
 use Rattle.rules.specs.State.{Lent, storeIn, ringOf, freshPod}
 use Rattle.rules.specs.Obey.{initialisedPod, shut, checksOf, receiveChecks, doneBy, received, exchangeCode, reportOf}
-use Rattle.rules.specs.Refusals.{bytes}
+use Rattle.rules.specs.Refusals.{bytes, allRow}
 use Rattle.rules.specs.Calls.{meantBody, replyBytes, spokenBytes, answered, packetHeard}
 use Rattle.rules.specs.World.{World, withPod, packet, answering, Stepped, rowsOf, isRefused}
 use Rattle.rules.specs.History.{succeeded, errored}
@@ -44,13 +45,10 @@ use Rattle.rules.proofs.Replied.{shownBy}
 
 -- ---- an answer in its room
 
--- it stands whole there, and the rest of the room is kept
+-- the rest of the room is kept
 module _ (l room : List ℕ) (n : ℕ) (long : length l ≡ n) (fits : length l ≤ length room) where
   in-room : sets room 0 l ≡ l ++ drop (length l) room
   in-room = sets-eq l room 0 (omega arith) ∙ ap (λ (k : ℕ). l ++ drop k room) (zero-add (length l))
-
-  whole-shown : take n (sets room 0 l) ≡ l
-  whole-shown = rw in-room (take-at l (drop (length l) room) n long)
 
   rest-kept : drop n (sets room 0 l) ≡ drop n room
   rest-kept = rw in-room (drop-at l (drop (length l) room) n long ∙ ap (λ (k : ℕ). drop k room) long)
@@ -61,7 +59,7 @@ first-two : (room : List ℕ) (first second : ℕ) (body : List ℕ) → length 
 unfolding answerOf withCrc
 first-two room first second body h = rw (sets-eq (answerOf first second body) room 0 (omega arith))
 
-short-answers : (c : Command) → commandRow c .answer ≤ 260
+pub short-answers : (c : Command) → commandRow c .answer ≤ 260
 unfolding commandRow commandPlace
 short-answers (Initialise f) = omega arith
 short-answers Status = omega arith
@@ -88,15 +86,19 @@ done-shown Shutdown l p k = refl
 
 module _ (l : Lent) (p : Pod) (inside : PodIn p) (sized : (s : Store) → storeSized s (storeIn s l) ≡ true) where
   -- the oldest block of a store, where one waits
+  pub oldest-long : (s : Store) → Clear (receiveChecks s p) → length (oldestOf (capacityOf s) (ringOf s p) (storeIn s l)) ≡ 256
+  unfolding storeSized
+  oldest-long s (past on (past some k)) =
+      let waits = eqb-false (ringOf s p .waiting) 0 some in
+      oldest-whole (capacityOf s) (ringOf s p) (storeIn s l) (ring-in inside s) (eqb-true _ _ (sized s)) (omega arith)
+
   block-long : (s : Store) (first : ℕ) → Clear (receiveChecks s p)
       → length (answerOf first 0x01 (meantBody (received s l p .said) (received s l p .pod) l)) ≡ 260
-  unfolding storeSized meantBody dataAnswer
-  block-long s first (past on (past some k)) =
-      let waits = eqb-false (ringOf s p .waiting) 0 some in
-      data-length first _ (oldest-whole (capacityOf s) (ringOf s p) (storeIn s l) (ring-in inside s) (eqb-true _ _ (sized s)) (omega arith))
+  unfolding meantBody dataAnswer
+  block-long s first q = data-length first _ (oldest-long s q)
 
   -- the answer has as many bytes as the packet table says
-  answer-long : (c : Command) → Clear (checksOf c p) → length (answerOf (commandRow c .code) 0x01 (shownBy c l p)) ≡ commandRow c .answer
+  pub answer-long : (c : Command) → Clear (checksOf c p) → length (answerOf (commandRow c .code) 0x01 (shownBy c l p)) ≡ commandRow c .answer
   unfolding commandRow commandPlace checksOf doneBy meantBody reportOf doneAnswer statusAnswer valueAnswer
   answer-long (Initialise f) q = done-length 0x90
   answer-long Status q = status-length 0x91 (reportOf p) (missing-length (p .params))
@@ -109,20 +111,24 @@ module _ (l : Lent) (p : Pod) (inside : PodIn p) (sized : (s : Store) → storeS
 
 -- ---- the answer to a packet
 
--- where no row of a packet holds, each store is of its size
-sized-at : (w : World) (b room : List ℕ) → Clear (rowsOf w (packet b room)) → (s : Store) → storeSized s (storeIn s (w .lent)) ≡ true
-unfolding rowsOf
-sized-at w b room k s =
-    let x = storeSized store.Priority (w .lent .priority) in
-    let y = storeSized store.Ordinary (w .lent .ordinary) in
-    let z = tablesSized (w .lent .tables) in
-    let all = not-false (clear-head (clear-rest k)) in
+-- where all that is lent is of its size, each store is
+pub sized-in : (l : Lent) → allRow l .holds ≡ false → (s : Store) → storeSized s (storeIn s l) ≡ true
+sized-in l h s =
+    let x = storeSized store.Priority (l .priority) in
+    let y = storeSized store.Ordinary (l .ordinary) in
+    let z = tablesSized (l .tables) in
+    let all = not-false h in
     on s (and-left x (y && z) all) (and-left y z (and-right x (y && z) all))
   where
-    on : (s : Store) → storeSized store.Priority (w .lent .priority) ≡ true → storeSized store.Ordinary (w .lent .ordinary) ≡ true
-        → storeSized s (storeIn s (w .lent)) ≡ true
+    on : (s : Store) → storeSized store.Priority (l .priority) ≡ true → storeSized store.Ordinary (l .ordinary) ≡ true
+        → storeSized s (storeIn s l) ≡ true
     on store.Priority p o = p
     on store.Ordinary p o = o
+
+-- and so where no row of a packet holds
+pub sized-at : (w : World) (b room : List ℕ) → Clear (rowsOf w (packet b room)) → allRow (w .lent) .holds ≡ false
+unfolding rowsOf
+sized-at w b room k = clear-head (clear-rest k)
 
 module _ (w : World) (b room : List ℕ) (k : Clear (rowsOf w (packet b room))) where
   command-answers : (c : Command) → Clear (checksOf c (w .pod)) → Succeeds c room (obeying c room w .told)
@@ -132,12 +138,12 @@ module _ (w : World) (b room : List ℕ) (k : Clear (rowsOf w (packet b room))) 
       let body = shownBy c (w .lent) p in
       let l = answerOf (commandRow c .code) 0x01 body in
       let n = commandRow c .answer in
-      let long : length l ≡ n = answer-long (w .lent) p (in-shut (pod-in (w .pod) (sound-at w b room k))) (sized-at w b room k) c (rw (← checks-shut c (w .pod)) at q) in
+      let long : length l ≡ n = answer-long (w .lent) p (in-shut (pod-in (w .pod) (sound-at w b room k))) (sized-in (w .lent) (sized-at w b room k)) c (rw (← checks-shut c (w .pod)) at q) in
       let fits : length l ≤ length room = omega (arith, room-at w b room k, short-answers c, long) in
       record {
         count = ap (λ (m : ℕ). gave (bytes m)) long;
         start = first-two room (commandRow c .code) 0x01 body fits;
-        crc = ap crcRight (whole-shown l room n long fits) ∙ answer-right (commandRow c .code) 0x01 body;
+        crc = ap crcRight (sets-taken l room n long fits) ∙ answer-right (commandRow c .code) 0x01 body;
         rest = rest-kept l room n long fits;
         whole = λ one. ap (λ (m : List ℕ). answering room (answerOf (commandRow c .code) 0x01 m)) (done-shown c (w .lent) p one);
       }

@@ -1,14 +1,16 @@
 -- `crc::crc_of` meets its contract: in both loops the rest of the bytes still brings the register to the value for all of them.
 use mathlib.Core.Path.{_≡_, sym, ap, _∙_}
+use mathlib.Core.List.{[]}
 use Prim.Native.Nat.{ℕ, _+_, _-_, _^_, _≤_, _<_}
 use native.Mathlib.Nat.{min-eq-left}
+use native.Mathlib.Numerals.{add-one}
 use native.Mathlib.Omega.{arith}
 use borrow.Author.Needs.{needs}
 use lib.ListN.{length, take, drop, length-take, length-drop, drop-of-length-le}
 use Rattle.crc.specs.Crc.{crcFrom, crcOf}
 use Rattle.crc.specs.Bytes.{crcBytes}
 use Rattle.crc.proofs.Register.{from-none}
-use Rattle.crc.proofs.Bytes.{places-are, more}
+use Rattle.crc.proofs.Bytes.{places, places-are, more}
 use Rattle.crc.proofs.Fold.{fold, started, eight-more, eight-fits}
 use Rattle.crc.proofs.crc_of.Statement.{statement}
 use Rattle.crc.proofs.crc_of.Tie as tie
@@ -42,14 +44,21 @@ crc-of-spec =
     let told = eight-more (at .s) (c .word-of .result) (at .inv .1) ∙ ap (crcFrom (fold (at .s))) word in
     (search needs, eight-fits (at .s) (c .word-of .result) (at .inv .1) (search needs), ap (λ (x : ℕ). crcFrom x (drop (at .i + 8) bytes)) told ∙ sym (more 8 (fold (at .s)) bytes (at .i)) ∙ at .inv .2))
     (λ c κs. search needs) (λ c. (search needs, rw (c .fold-of .ensures) (c .before .before .loop .inv .2))) (λ c. search needs)
-    (λ c κs. search needs) (λ c. search needs) (λ c. search needs)
+    (λ c. search needs) (λ c. search needs) (λ c. search needs) (λ c κs. search needs) (λ c. search needs) (λ c. search needs)
     (λ c.
-    let at = c .before .before .before .loop2 in
-    let bytes = c .before .before .before .before .before .before .before .before .args .bytes .now in (
+    let at = c .before .before .before .before .loop2 in
+    let bytes = c .before .before .before .before .before .before .before .before .before .args .bytes .now in
+    let both : c .pair .result ≡ crcFrom (at .c) (places 2 (at .i) bytes) = rw add-one at (c .pair .ensures) in (
       search needs,
-      ap (λ (x : ℕ). crcFrom x (drop (at .i + 1) bytes)) (c .one .ensures ∙ ap (crcFrom (at .c)) (places-are 1 (at .i) bytes (search needs)))
-          ∙ sym (more 1 (at .c) bytes (at .i)) ∙ at .inv .1,
-    ))
+      ap (λ (x : ℕ). crcFrom x (drop (at .i + 2) bytes)) (both ∙ ap (crcFrom (at .c)) (places-are 2 (at .i) bytes (search needs)))
+          ∙ sym (more 2 (at .c) bytes (at .i)) ∙ at .inv .1,
+    )) (λ c. search needs) (λ c κs. search needs)
     (λ c.
-    let end : length (c .before .before .before .before .before .before .args .bytes .now) ≤ c .before .loop2 .i = search needs in
-    rw (drop-of-length-le, from-none) at (c .before .loop2 .inv .1)))
+    let at = c .before .before .before .before .loop2 in
+    let bytes = c .before .before .before .before .before .before .before .before .before .args .bytes .now in
+    let end : drop (at .i + 1) bytes ≡ [] = drop-of-length-le bytes {i = at .i + 1} (search needs) in
+    let last = rw (end, from-none) at (more 1 (at .c) bytes (at .i)) in
+    c .one .ensures ∙ ap (crcFrom (at .c)) (places-are 1 (at .i) bytes (search needs)) ∙ sym last ∙ at .inv .1)
+    (λ c.
+    let end : length (c .before .before .before .before .before .before .before .args .bytes .now) ≤ c .before .before .loop2 .i = search needs in
+    rw (drop-of-length-le, from-none) at (c .before .before .loop2 .inv .1)))

@@ -13,7 +13,7 @@ returns c =
 returns-2 : tie.Need-returns-2
 returns-2 c =
     let a = c .before .before .before .before .before .before .before .args in
-    rw (two-digits (a .letter) (a .number) (c .before .before .before .before .before .if1 .left)) (c .before .before .append2 .ensures .0, (c .before .before .append2 .ensures .1, omega arith))
+    rw (two-digits (a .letter) (a .number) (c .before .before .before .before .before .if1 .left) (omega arith)) (c .before .before .append2 .ensures .0, (c .before .before .append2 .ensures .1, omega arith))
 
 pub refused-line-spec : {M : Type 1} → statement M
 refused-line-spec =

@@ -6,9 +6,9 @@ use mathlib.Core.List.{List}
 use lib.Seq.{length-take-le}
 use denote.Ref.{now}
 use Rattle.lab_names.specs.Names.{partNamed}
-use Rattle.lab_lines.specs.Reading.{numbersIn, numbersRead}
+use Rattle.decimals.specs.Reading.{numbersIn, numbersRead}
 use Rattle.lab_lines.specs.Asked.{askedOf, changeIn}
-use Rattle.lab_lines.proofs.Decimals.{the-rest}
+use Rattle.decimals.proofs.Digits.{the-rest}
 use Rattle.lab_lines.proofs.asking.change.Statement.{statement}
 use Rattle.lab_lines.proofs.asking.change.Tie as tie
 
@@ -19,7 +19,7 @@ returns c =
     let e = c .before .before .before .before .before .name-end in
     c .asked-of .ensures
     ∙ ap₂ askedOf (c .before .before .before .named .ensures ∙ ap partNamed (e .ensures .0))
-    (c .before .numbers .ensures ∙ ap (λ (l : List ℕ). numbersRead (numbersIn l)) (the-rest t (e .result) ∙ e .ensures .1))
+    (c .before .numbers-in .ensures ∙ ap (λ (l : List ℕ). numbersRead (numbersIn l)) (the-rest t (e .result) ∙ e .ensures .1))
 
 pub change-spec : {M : Type 1} → statement M
 change-spec =

@@ -12,6 +12,7 @@ exchange-asked-spec =
     (tie.spec
     (λ c κs. search needs)
     (λ c. rw (sym (c .before .minus-one .ensures) ∙ c .if1 .taken))
-    (λ c. rw (sym (c .before .before .minus-one .ensures) ∙ c .before .if1 .left, c .if2 .taken))
     (λ c κs. search needs)
-    (λ c. rw (sym (c .before .before .before .minus-one .ensures) ∙ c .before .before .if1 .left, c .before .if2 .left) (c .exchange-of .ensures)))
+    (λ c. rw (sym (c .before .before .before .minus-one .ensures) ∙ c .before .before .if1 .left, sym (c .before .below .ensures) ∙ c .if2 .taken))
+    (λ c κs. search needs)
+    (λ c. rw (sym (c .before .before .before .before .minus-one .ensures) ∙ c .before .before .before .if1 .left, sym (c .before .before .below .ensures) ∙ c .before .if2 .left) (c .exchange-of .ensures)))

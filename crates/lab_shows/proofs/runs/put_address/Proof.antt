@@ -2,7 +2,7 @@
 use native.Mathlib.Omega.{arith}
 use borrow.Author.Needs.{needs}
 use mathlib.Core.Path.{_≡_, refl, sym, ap, _∙_}
-use Rattle.lab_shows.proofs.Behind.{renamed}
+use Rattle.decimals.proofs.Behind.{renamed}
 use Rattle.lab_shows.proofs.runs.put_address.Statement.{statement}
 use Rattle.lab_shows.proofs.runs.put_address.Tie as tie
 

@@ -9,9 +9,9 @@ use lib.IntN.{ℤ, pos}
 use mir.Syntax.{w32}
 use mir.Val.{toZ, ofZ}
 use denote.Ref.{now}
-use Rattle.lab_shows.specs.Decimal.{spelled, Written}
-use Rattle.lab_shows.proofs.Behind.{Left, none-left, one-more, whole}
-use Rattle.lab_shows.proofs.Spell.{values-on, values-end}
+use Rattle.decimals.specs.Printing.{spelled, Written}
+use Rattle.decimals.proofs.Behind.{Left, none-left, one-more, whole}
+use Rattle.decimals.proofs.Spell.{values-on, values-end}
 use Rattle.lab_shows.proofs.runs.put_values.Statement.{statement}
 use Rattle.lab_shows.proofs.runs.put_values.Tie as tie
 

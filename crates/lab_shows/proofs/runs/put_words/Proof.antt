@@ -8,8 +8,9 @@ use lib.ListN.{length, take, drop, getD}
 use denote.Ref.{now}
 use lib.Seq.{sets}
 use Rattle.hex.specs.Digits.{wordDigits}
-use Rattle.lab_shows.specs.Decimal.{spelledWords, Written}
-use Rattle.lab_shows.proofs.Behind.{Left, none-left, one-more, whole, appended}
+use Rattle.decimals.specs.Printing.{Written}
+use Rattle.lab_shows.specs.Shown.{spelledWords}
+use Rattle.decimals.proofs.Behind.{Left, none-left, one-more, whole, appended}
 use Rattle.lab_shows.proofs.Spell.{words-on, words-end}
 use Rattle.lab_shows.proofs.runs.put_words.Statement.{statement}
 use Rattle.lab_shows.proofs.runs.put_words.Tie as tie

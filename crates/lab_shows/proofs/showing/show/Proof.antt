@@ -6,9 +6,9 @@ use mathlib.Core.List.{List, [], _∷_, _++_}
 use Prim.Native.Nat.{ℕ}
 use lib.ListN.{length}
 use denote.Ref.{now}
-use Rattle.lab_shows.specs.Decimal.{spelled, spelledWords}
-use Rattle.lab_shows.specs.Shown.{frontNumbers, backNumbers, shownChecks, shownText, lentOf}
-use Rattle.lab_shows.proofs.Behind.{appended, both, renamed}
+use Rattle.decimals.specs.Printing.{spelled}
+use Rattle.lab_shows.specs.Shown.{spelledWords, frontNumbers, backNumbers, shownChecks, shownText, lentOf}
+use Rattle.decimals.proofs.Behind.{appended, both, renamed}
 use Rattle.lab_shows.proofs.Spell.{in-front}
 use Rattle.lab_shows.proofs.showing.show.Statement.{statement}
 use Rattle.lab_shows.proofs.showing.show.Tie as tie

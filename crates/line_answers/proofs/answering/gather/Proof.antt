@@ -11,16 +11,18 @@ use Rattle.rows.proofs.Bool.{and-left, and-right}
 use Rattle.lines.specs.declared.Cut.{Cut}
 use Rattle.line_calls.specs.Memory.{memory}
 use Rattle.line_answers.specs.declared.Standing.{Standing}
-use Rattle.line_answers.specs.Turns.{stand, Turns, start, another, Fine}
-use Rattle.line_answers.proofs.Turning.{cut-on, turn-found, turn-more, within-answered}
+use Rattle.lines.specs.Turns.{Turns, start, another}
+use Rattle.lines.proofs.Turning.{cut-on, turn-found, turn-more}
+use Rattle.line_answers.specs.Turns.{AnswersText, standing, Fine}
+use Rattle.line_answers.proofs.Sized.{within-answered}
 use borrow.Author.Needs.{needs}
 use Rattle.line_answers.proofs.answering.gather.Statement.{statement}
 use Rattle.line_answers.proofs.answering.gather.Tie as tie
 
 abbrev Inv-loop : tie.InvT-loop
 Inv-loop program piece line₀ bytes₀ words₀ room₀ priority₀ ordinary₀ five₀ six₀ seven₀ load₀ out₀ cursor₀ between₀ line bytes words room priority ordinary five six seven load out cursor between =
-    (Turns program piece (stand (record { cursor = cursor₀; between = between₀ }) line₀ (memory room₀ priority₀ ordinary₀ five₀ six₀ seven₀ load₀) out₀)
-    (stand (record { cursor = cursor; between = between }) line (memory room priority ordinary five six seven load) out))
+    (Turns (AnswersText program) piece (standing (record { cursor = cursor₀; between = between₀ }) line₀ (memory room₀ priority₀ ordinary₀ five₀ six₀ seven₀ load₀) out₀)
+    (standing (record { cursor = cursor; between = between }) line (memory room priority ordinary five six seven load) out))
     × Fine (record { cursor = cursor; between = between }) (length piece)
 
 abbrev μ-loop : tie.MeasureT-loop
@@ -52,7 +54,7 @@ loop-again : tie.Need-loop-again Inv-loop μ-loop
 loop-again c =
     let inv = c .before .before .before .before .before .before .before .before .loop .inv in
     let l = c .before .before .before .next-line in (
-      another _ _ _ (inv .0) (turn-more _ _ _ _ (l .result) (l .ensures .0) refl (l .ensures .1 .0) (c .enum-told .given .1) refl refl refl),
+      another _ _ _ (inv .0) (turn-more _ _ _ _ (l .result) (l .ensures .0) refl (l .ensures .1 .0) (c .enum-told .given .1) refl),
       record { start = l .ensures .1 .1 .1 .0; longest = l .ensures .1 .1 .1 .1; within = inv .1 .within },
     )
 

@@ -3,7 +3,7 @@ use mathlib.Core.Path.{refl, sym, _∙_}
 use borrow.Author.Needs.{needs}
 use Rattle.line_calls.specs.Calls.{heardLine, callOf}
 use Rattle.line_answers.specs.Lines.{sizesAfter}
-use Rattle.line_answers.proofs.Turning.{sizes-again}
+use Rattle.line_answers.proofs.Sized.{sizes-again}
 use Rattle.line_answers.proofs.asking.next_sizes.Statement.{statement}
 use Rattle.line_answers.proofs.asking.next_sizes.Tie as tie
 

@@ -1,4 +1,5 @@
 -- `packet_port::port::hear` meets its contract: by what the packet is read as. Assumes nothing.
+use native.Mathlib.Omega.{arith}
 use mathlib.Core.Path.{sym, _∙_}
 use Rattle.packets.proofs.Laws.{read-decided, asked-first}
 use Rattle.rules.specs.Calls.{packetHeard, replyBytes, spokenBytes, answered}
@@ -32,7 +33,7 @@ pub hear-spec : {M : Type 1} → statement M
 unfolding packetHeard answered spokenBytes
 hear-spec =
     tie.close (tie.spec (λ c κs. search needs) (λ c. search needs) (λ c. search needs)
-    (λ c κs. c .before .before .before .before .before .before .before .before .before .pre .room) (λ c κs. search needs) (λ c. search needs)
+    (λ c κs. omega (arith, c .before .before .before .before .before .before .before .before .before .pre .room)) (λ c κs. search needs) (λ c. search needs)
     (λ c κs. c .before .before .before .before .before .before .before .before .pre .sound) (λ c. search needs)
     (λ c. let p = c .before .before in asked-some _ _ (sym (read-decided _ _ (p .before .before .read .ensures)) ∙ p .parsed3 .given .1))
     (λ c κs. c .before .before .before .before .before .before .before .before .before .before .pre)

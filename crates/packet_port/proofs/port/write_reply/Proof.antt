@@ -1,4 +1,5 @@
 -- `packet_port::port::write_reply` meets its contract: reply by reply. Assumes nothing.
+use native.Mathlib.Omega.{arith}
 use mathlib.Core.Path.{_≡_, ap, _∙_}
 use lib.ListN.{length}
 use mir.Syntax.{w32}
@@ -57,11 +58,11 @@ returns-5 c l =
 pub write-reply-spec : {M : Type 1} → statement M
 unfolding replyBytes replySaid meantBody doneAnswer
 write-reply-spec =
-    tie.close (tie.spec (λ c. search needs) (λ c κs. c .before .before .before .before .before .before .pre .0 .room) (λ c. search needs)
-    (λ c κs. c .before .before .before .before .before .before .before .pre .0 .room) (λ c. search needs)
+    tie.close (tie.spec (λ c. search needs) (λ c κs. omega (arith, c .before .before .before .before .before .before .pre .0 .room)) (λ c. search needs)
+    (λ c κs. omega (arith, c .before .before .before .before .before .before .before .pre .0 .room)) (λ c. search needs)
     (λ c κs. c .before .before .before .before .before .before .pre .0 .sound)
     (λ c κs. c .before .before .before .before .before .before .before .pre .0 .room) (λ c. search needs)
-    (λ c κs. c .before .before .before .before .before .before .before .pre .0 .room) (λ c. search needs) (λ c κs. search needs) oldest-requires
+    (λ c κs. omega (arith, c .before .before .before .before .before .before .before .pre .0 .room)) (λ c. search needs) (λ c κs. search needs) oldest-requires
     write-data-requires (λ c. search needs)
     (λ c l. rw (c .before .before .before .before .enum-told .given .1) (c .before .before .write-done .ensures)) (λ c. search needs)
     (λ c l. rw (c .before .before .before .before .before .reply .given .1) (c .before .before .write-error .ensures)) (λ c. search needs) returns-3

@@ -1,0 +1,4 @@
+pub mod Words
+pub mod Spoken
+pub mod Promise
+pub mod Statements

@@ -1,0 +1,15 @@
+pub mod Due
+pub mod Lent
+pub mod Carried
+pub mod Acknowledged
+pub mod Refuses
+pub mod Damage
+pub mod NoReply
+pub mod Replies
+pub mod Beside
+pub mod Decided
+pub mod Answers
+pub mod AnswersRead
+pub mod BytesBack
+pub mod ReadExactly
+pub mod Airframe

@@ -1,0 +1,4 @@
+pub mod Building
+pub mod Reading
+pub mod Sending
+pub mod Statements

@@ -1,0 +1,66 @@
+"""The sheet's tables of the library `airframe` against its source and its definitions."""
+import re
+
+from .desk import Part, checks
+from .pages import ROOT, Fault, crates, plain
+
+SOURCE = "crates/airframe/src"
+HEAD = re.compile(r"^( *)pub fn (\w+)\(([^)]*)\) -> ([^\n{]+?)\n(.*?)\n\1\{$", re.M | re.S)
+TYPE = re.compile(r"^pub (?:enum|struct) (\w+) \{\n(.*?)^\}$", re.M | re.S)
+
+
+class Library(Part):
+    """The tables of functions, types and refusals."""
+
+    def all(self):
+        """Each table once."""
+        checks(self.desk, self.check_functions, self.check_types, self.check_refusals)
+
+    def check_functions(self):
+        """Every public function with what it takes and gives, none with a condition; and what the library stands on."""
+        table = self.take("Function", "Takes", "Gives", "Refuses by")
+        found = {}
+        for path in sorted((ROOT / SOURCE).glob("*.rt")):
+            for indent, name, takes, gives, rest in HEAD.findall(path.read_text()):
+                found["Sending::" * bool(indent) + name] = takes, gives
+                if "requires" in rest:
+                    table.rows[0].fault("%s has a condition" % name)
+        if sorted(found) != sorted(table.column(0)):
+            table.rows[0].fault("the functions of %s are %s" % (SOURCE, ", ".join(sorted(found))))
+        for row in table:
+            takes, gives = found[plain(row[0])]
+            refuses = {"Built": "20, 24", "Meaning": "23"}.get(gives, "23" if gives == "Heard" and "&[u8]" in takes else "none")
+            if plain(row[1]) != takes or not row[2].startswith("`%s`: " % gives) or row[3] != refuses:
+                row.fault("it takes %s, gives %s and refuses by %s" % (takes, gives, refuses))
+        text = (ROOT / table.page).read_text()
+        stands = re.search(r"It stands on the crates\s(.*?)\salone", text, re.S)
+        if not stands or sorted(re.findall(r"`(\w+)`", stands[1])) != sorted(crates()["airframe"]):
+            raise Fault("%s: airframe stands on %s" % (table.page, ", ".join(crates()["airframe"])))
+
+    def check_types(self):
+        """Every type of the library, and the two of `packets` that a command is made of."""
+        table = self.take("Type", "Values or parts", "Is")
+        found = {}
+        for crate in ("airframe", "packets"):
+            text = re.sub(r"^ *//.*\n", "", (ROOT / "crates" / crate / "src/lib.rt").read_text(), flags=re.M)
+            for name, body in TYPE.findall(text):
+                if crate == "airframe" or name in ("Command", "Fields"):
+                    found[name] = [part.strip().removeprefix("pub ") for part in body.split(",\n") if part.strip()]
+        if sorted(found) != sorted(table.column(0)):
+            table.rows[0].fault("the types are %s" % ", ".join(sorted(found)))
+        for row in table:
+            if re.findall(r"`([^`]*)`", row[1]) != found[plain(row[0])]:
+                row.fault("it has %s" % "; ".join(found[plain(row[0])]))
+
+    def check_refusals(self):
+        """The numbers, by the definition that the promises use."""
+        table = self.take("No.", "Name", "When", "Changes", "What to do")
+        rules = (ROOT / "crates/airframe/specs/Building.antt").read_text()
+        if list(zip(table.column(1), table.column(0))) != re.findall(r"^refusalNumber (\w+) = (\d+)$", rules, re.M):
+            table.rows[0].fault("the refusals are not those of refusalNumber")
+        least = re.search(r"row 24 \(ltb \(length room\) (\d+)\)", rules)[1]
+        if "fewer than %s bytes" % least not in table.rows[2][2]:
+            table.rows[2].fault("the room has %s bytes or more" % least)
+        changes = [row[3] for row in table]
+        if changes != ["nothing", "`reply` uses up one send, `read` changes nothing", "nothing"]:
+            table.rows[0].fault("20 and 24 change nothing, 23 uses up one send")
