@@ -14,8 +14,8 @@ PROOFS = {'Shown': 'all-shown', 'Computed': 'all-computed', 'Edges': 'all-edges'
 BESIDE = ('pod', 'line_loop', 'aircraft_loop', 'vectors', 'repeats')
 # the crates that have statements, each with the record that holds all of them
 WHOLE = {'rules': 'Whole', 'examples': 'Examples', 'port_examples': 'PortExamples', 'airframe': 'Statements', 'both_ends': 'Ends',
-         'aircraft_lines': 'Statements', 'aircraft_answers': 'Statements'}
-HEAD = re.compile(r'^\s*(?:pub )?fn (\w+)', re.M)
+         'aircraft_lines': 'Statements', 'aircraft_answers': 'Statements', 'tolmezha': 'Statements'}
+HEAD = re.compile(r'^\s*(?:pub )?(?:extern "C" )?fn (\w+)', re.M)
 failures = []
 
 
@@ -71,7 +71,7 @@ def functions():
 def exported(crate):
     """The public functions of a crate: those of its lib.rt, and what it hands on by name."""
     text = (ROOT / 'crates' / crate / 'src' / 'lib.rt').read_text()
-    named = re.findall(r'^\s*pub fn (\w+)', text, re.M)
+    named = re.findall(r'^\s*pub (?:extern "C" )?fn (\w+)', text, re.M)
     return named + [n for n in re.findall(r'^pub use \w+::(\w+);', text, re.M) if n[0].islower()]
 
 

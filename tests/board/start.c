@@ -60,6 +60,17 @@ u64 write(u32 file, const void *at, u64 length)
     return moved(0x05, out, at, (u32)length);
 }
 
+/* The same for the C program of the library (tests/library/lines.h). */
+int vectors_read(void *into, u32 length)
+{
+    return (int)moved(0x06, in, into, length);
+}
+
+int vectors_write(const void *from, u32 length)
+{
+    return (int)moved(0x05, out, from, length);
+}
+
 /* A counted call has ended: its number in the four top bits, and the ticks. */
 void note(u32 number, u32 after)
 {

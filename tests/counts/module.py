@@ -134,6 +134,19 @@ def kept(name):
     return module
 
 
+def archived(name):
+    """The same of a library that C programs link: `rt staticlib` proves and compiles it anew whenever it is called."""
+    module, archive = KEPT / f"lib{name}.bc", TOP / "target" / "staticlib" / f"lib{name}.a"
+    module.unlink(missing_ok=True)
+    home = {**os.environ, "RATTLE_HOME": str(keeper(f"lib{name}"))}
+    run("rt", "staticlib", name, env=home, stderr=subprocess.DEVNULL)
+    if not module.exists():
+        fail(f"nothing was compiled for lib{name}.a")
+    if run(tools() / "bin" / "llvm-ar", "p", archive) != compiled(f"lib{name}", module).read_bytes():
+        fail(f"the module kept of lib{name}.a is not the one that was compiled")
+    return module
+
+
 def compiled(name, module):
     """The object file of a module for x86-64, by the words with which the kit compiled this program's."""
     words = (KEPT / f"{name}.words").read_text().splitlines()
@@ -142,10 +155,10 @@ def compiled(name, module):
     return out
 
 
-def text(name):
+def text(name, keep=kept):
     """The module as text, as it was before any step of the compiler."""
     ways = ("--target=x86_64-unknown-linux-gnu", "-Xclang", "-disable-llvm-passes")
-    return clang(*ways, "-S", "-emit-llvm", "-x", "ir", kept(name), "-o", "-").decode()
+    return clang(*ways, "-S", "-emit-llvm", "-x", "ir", keep(name), "-o", "-").decode()
 
 
 @functools.cache

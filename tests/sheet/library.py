@@ -1,4 +1,4 @@
-"""The sheet's tables of the library `airframe` against its source and its definitions."""
+"""The sheet's tables of the library `airframe` against its source and its definitions, and of the library for C against its header."""
 import re
 
 from .desk import Part, checks
@@ -6,6 +6,9 @@ from .pages import ROOT, Fault, crates, plain
 
 SOURCE = "crates/airframe/src"
 HEAD = re.compile(r"^( *)pub fn (\w+)\(([^)]*)\) -> ([^\n{]+?)\n(.*?)\n\1\{$", re.M | re.S)
+HEADER = "include/tolmezha.h"
+EXPORT = re.compile(r"^/\* ((?:(?!\*/).)*)\*/\n\w+ (tolmezha_\w+)\(", re.M | re.S)
+NAME = re.compile(r"^#define (TOLMEZHA_\w+) \(?(-?\d+)\)?", re.M)
 TYPE = re.compile(r"^pub (?:enum|struct) (\w+) \{\n(.*?)^\}$", re.M | re.S)
 
 
@@ -14,7 +17,7 @@ class Library(Part):
 
     def all(self):
         """Each table once."""
-        checks(self.desk, self.check_functions, self.check_types, self.check_refusals)
+        checks(self.desk, self.check_functions, self.check_types, self.check_refusals, self.check_exports, self.check_names)
 
     def check_functions(self):
         """Every public function with what it takes and gives, none with a condition; and what the library stands on."""
@@ -64,3 +67,25 @@ class Library(Part):
         changes = [row[3] for row in table]
         if changes != ["nothing", "`reply` uses up one send, `read` changes nothing", "nothing"]:
             table.rows[0].fault("20 and 24 change nothing, 23 uses up one send")
+
+    def check_exports(self):
+        """Every function of the header, and what its own words, or those of the function that they name, say of refusals."""
+        table = self.take("In C", "Behind it", "Returns", "Refuses by")
+        text = (ROOT / HEADER).read_text()
+        found = {name: words for words, name in EXPORT.findall(text)}
+        if list(found) != table.column(0):
+            table.rows[0].fault("the functions of %s are %s" % (HEADER, ", ".join(found)))
+        numbers = {name: number for name, number in NAME.findall(text) if int(number) < 0}
+        for row in table:
+            words = found[plain(row[0])]
+            like = re.search(r"keeps what (\w+) does", re.sub(r"\s+", " ", words))
+            refuses = sorted({-int(number) for name, number in numbers.items() if name in words + (found[like[1]] if like else "")})
+            if row[3] != (", ".join(map(str, refuses)) or "none"):
+                row.fault("it refuses by %s" % refuses)
+
+    def check_names(self):
+        """Every number that the header names."""
+        table = self.take("Name in C", "Number", "Is")
+        found = [(name.removeprefix("TOLMEZHA_"), number) for name, number in NAME.findall((ROOT / HEADER).read_text())]
+        if list(zip(table.column(0), table.column(1))) != found:
+            table.rows[0].fault("%s has %s" % (HEADER, found))

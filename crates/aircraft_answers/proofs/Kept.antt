@@ -9,9 +9,10 @@ use Rattle.packets.specs.Answers.{commandBytes}
 use Rattle.airframe.specs.Building.{firstFits}
 use Rattle.items.specs.Printed.{bytesLine}
 use Rattle.aircraft_lines.specs.Asked.{Ask, sends, takes, hears, waits, again, other}
-use Rattle.aircraft_answers.specs.Spoken.{Way, isOver, spokenOf}
+use Rattle.airframe.specs.Sending.{isOver}
+use Rattle.aircraft_answers.specs.Spoken.{Way, spokenOf}
 use Rattle.aircraft_answers.specs.Statements.{TooLarge, accepted, noneAccepted, wayAfter, SameBytes, RefusedKeeps, NoSendUsed}
-use Rattle.aircraft_answers.proofs.Asking.{outside}
+use Rattle.airframe.proofs.Typed.{outside}
 
 pub too-large : TooLarge
 unfolding spokenOf

@@ -20,10 +20,10 @@ use Rattle.airframe.specs.declared.Step.{Step}
 use Rattle.airframe.specs.declared.Step.the-variants.{Idle, Ended, Again, Lost}
 use Rattle.airframe.specs.Building.{commandFits, commandWide, firstFits}
 use Rattle.airframe.specs.Reading.{Meant, done, failed, status, value, block}
-use Rattle.airframe.specs.Sending.{Outcome, silence, answer, heardOf}
+use Rattle.airframe.specs.Sending.{isOver, Outcome, silence, answer, heardOf}
 use Rattle.aircraft_lines.specs.Asked.{sends, takes, hears, waits, again, other}
 use Rattle.aircraft_answers.specs.Words.{characters, statusNumbers, meantText, readText, stepText, outcomeText}
-use Rattle.aircraft_answers.specs.Spoken.{Spoken, isOver, spokenOf}
+use Rattle.aircraft_answers.specs.Spoken.{Spoken, spokenOf}
 use Rattle.aircraft_answers.specs.Statements.{OneLine}
 
 -- one line

@@ -1,7 +1,7 @@
 -- What a line of the program aircraft is answered, and what is on its way after it.
 -- Assumes nothing.
 use Prim.Native.Nat.{ℕ}
-use mathlib.Core.Bool.{Bool, true, false, _&&_, cond}
+use mathlib.Core.Bool.{Bool, _&&_, cond}
 use mathlib.Core.List.{List, [], _∷_}
 use Rattle.packets.specs.declared.Command.{Command}
 use Rattle.packets.specs.Commands.{commandRow}
@@ -9,9 +9,8 @@ use Rattle.packets.specs.Answers.{commandBytes}
 use Rattle.items.specs.Characters.{question, space, dash, newline}
 use Rattle.items.specs.Printed.{bytesLine, bareLine, refusedLine}
 use Rattle.airframe.specs.declared.Sending.{Sending}
-use Rattle.airframe.specs.declared.Sending.the-variants.{Over, Awaiting}
 use Rattle.airframe.specs.Building.{commandFits, commandWide, firstFits, acknowledgementBytes}
-use Rattle.airframe.specs.Sending.{Outcome, silence, answer, sent, heardOf}
+use Rattle.airframe.specs.Sending.{isOver, Outcome, silence, answer, sent, heardOf}
 use Rattle.aircraft_lines.specs.Letters.{letterQ, letterY, letterP, letterN}
 use Rattle.aircraft_lines.specs.Asked.{Ask, sends, takes, hears, waits, again, other}
 use Rattle.aircraft_answers.specs.Words.{outcomeText}
@@ -34,10 +33,6 @@ spoken t w = record { text = t; way = w }
 
 abbrev pub heard : Outcome → Way → Spoken
 heard o w = spoken (outcomeText o) (way (o .sending) (w .bytes))
-
-abbrev pub isOver : Sending → Bool
-isOver Over = true
-isOver (Awaiting code left) = false
 
 -- "builds, and puts it on its way"; "A refused `Q` keeps what was on its way and its count; an accepted one replaces it, with four sends"
 abbrev pub sentIf : Bool → Command → Way → Spoken

@@ -11,13 +11,14 @@ use Rattle.packets.specs.Answers.{commandBytes}
 use Rattle.airframe.specs.declared.Form.{Form}
 use Rattle.airframe.specs.declared.Sending.{Sending}
 use Rattle.airframe.specs.Building.{commandFits, commandWide, firstFits, acknowledgementBytes}
-use Rattle.airframe.specs.Sending.{Came, silence, answer, sent, heardOf}
+use Rattle.airframe.specs.Sending.{isOver, Came, silence, answer, sent, heardOf}
 use Rattle.lines.specs.Cut.{before}
 use Rattle.items.specs.Characters.{space, dash, newline}
 use Rattle.items.specs.Printed.{bytesLine, refusedLine}
 use Rattle.aircraft_lines.specs.Letters.{letterQ, letterY, letterP, letterN}
-use Rattle.aircraft_lines.specs.Asked.{Ask, sends, takes, hears, waits, again, other, commandTyped}
-use Rattle.aircraft_answers.specs.Spoken.{Way, spoken, isOver, spokenOf}
+use Rattle.airframe.specs.Given.{commandTyped}
+use Rattle.aircraft_lines.specs.Asked.{Ask, sends, takes, hears, waits, again, other}
+use Rattle.aircraft_answers.specs.Spoken.{Way, spoken, spokenOf}
 
 -- "a line each": what is printed for a line is one line, its only newline at its end
 abbrev pub OneLine : Type 0

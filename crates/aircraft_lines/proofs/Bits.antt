@@ -12,7 +12,8 @@ use Rattle.numbers.specs.Numbers.{signedOf}
 use Rattle.numbers.proofs.Complement.{low-is, high-is}
 use Rattle.decimals.specs.declared.Number.{Number}
 use Rattle.decimals.specs.Reading.{number, isBelow}
-use Rattle.aircraft_lines.specs.Asked.{valueOf, valueTyped}
+use Rattle.airframe.specs.Given.{valueTyped}
+use Rattle.aircraft_lines.specs.Asked.{valueOf}
 
 abbrev half : ℕ
 half = 0x8000_0000

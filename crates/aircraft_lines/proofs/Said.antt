@@ -8,11 +8,12 @@ use lib.Dec.{ltb, eqb}
 use lib.ListN.{length}
 use borrow.Author.Tests.{ne-eqb}
 use Rattle.rows.proofs.Bool.{split, never}
-use Rattle.packets.specs.declared.Command.the-variants.{Initialise, Update, Write, Read}
+use Rattle.packets.specs.declared.Command.the-variants.{Write, Read}
 use Rattle.decimals.specs.declared.Number.{Number}
 use Rattle.aircraft_lines.specs.declared.Line.{Line}
 use Rattle.aircraft_lines.specs.declared.Line.the-variants.{Send, Outside, Other}
-use Rattle.aircraft_lines.specs.Asked.{numberAt, isPlain, isValue, allPlain, valueOf, fieldsAsked, fieldsTyped, valueTyped, commandTyped, bareAsked, commandAsked, sayAsk}
+use Rattle.airframe.specs.Given.{fieldsTyped, valueTyped, commandTyped, givenIn}
+use Rattle.aircraft_lines.specs.Asked.{numberAt, isPlain, isValue, allPlain, valueOf, sizesIn, fieldsAsked, lineGiven, bareAsked, commandAsked, sayAsk}
 
 -- the line that a code and numbers give
 abbrev pub lineAsked : ℕ → List Number → Line
@@ -71,21 +72,13 @@ module _ (code : ℕ) (l : List Number) (nine : length l ≡ 9) where
   unfolding commandAsked sayAsk
   nine-signed h = rw (nine, h, and-false (eqb code 0x90), and-false (eqb code 0x92), and-false (eqb code 0x93), and-false (eqb code 0x94))
 
-  pub nine-outside : (eqb code 0x90 || eqb code 0x92) ≡ true → allPlain l ≡ true → fieldsTyped (fieldsAsked l) ≡ false → Outside ≡ lineAsked code l
-  unfolding commandAsked sayAsk commandTyped
-  nine-outside h a k =
-      split (eqb code 0x90) (λ e. rw (nine, e, a, k)) (λ e. rw (nine, e, other-one (eqb code 0x90) (eqb code 0x92) h e, a, k))
-
-  pub nine-initialise : code ≡ 0x90 → allPlain l ≡ true → fieldsTyped (fieldsAsked l) ≡ true → Send (Initialise (fieldsAsked l)) ≡ lineAsked code l
-  unfolding commandAsked sayAsk commandTyped
-  nine-initialise e a k = rw (nine, e, a, k)
-
-  pub nine-update : (eqb code 0x90 || eqb code 0x92) ≡ true → (code ≡ 0x90 → ⊥) → allPlain l ≡ true → fieldsTyped (fieldsAsked l) ≡ true
-      → Send (Update (fieldsAsked l)) ≡ lineAsked code l
-  unfolding commandAsked sayAsk commandTyped
-  nine-update h n a k =
-      let e = ne-eqb code 0x90 n in
-      rw (nine, e, other-one (eqb code 0x90) (eqb code 0x92) h e, a, k)
+  pub nine-given : (eqb code 0x90 || eqb code 0x92) ≡ true → allPlain l ≡ true → lineGiven (eqb code 0x90) (givenIn (sizesIn l)) ≡ lineAsked code l
+  unfolding commandAsked sayAsk commandTyped lineGiven givenIn
+  nine-given h a =
+      let other = other-one (eqb code 0x90) (eqb code 0x92) h in
+      split (fieldsTyped (fieldsAsked l))
+      (λ k. split (eqb code 0x90) (λ e. rw (nine, e, a, k)) (λ e. rw (nine, e, other e, a, k)))
+      (λ k. split (eqb code 0x90) (λ e. rw (nine, e, a, k)) (λ e. rw (nine, e, other e, a, k)))
 
 -- any other code or count
 apart : (a b x : Bool) → (a && b) ≡ false → (b && (a && x)) ≡ false

@@ -1,17 +1,19 @@
 -- What a line of the program aircraft asks. Form is judged before fields: the numbers here may be of any size.
 -- Assumes nothing.
-use Prim.Native.Nat.{ℕ, _^_}
+use Prim.Native.Nat.{ℕ}
 use mathlib.Core.Bool.{Bool, true, false, not, _&&_, _||_, cond}
 use mathlib.Core.List.{List, [], _∷_}
 use lib.Dec.{ltb, eqb}
 use lib.IntN.{ℤ, pos, negℤ}
-use lib.Signed.{leZ, ltZ}
 use lib.ListN.{length, take, drop, getD}
 use Rattle.packets.specs.declared.Fields.{Fields}
 use Rattle.packets.specs.declared.Command.{Command}
 use Rattle.packets.specs.declared.Command.the-variants.{Initialise, Status, Update, Write, Read, Priority, Data, Shutdown}
 use Rattle.airframe.specs.declared.Form.{Form}
 use Rattle.airframe.specs.declared.Form.the-variants.{Taken, Failed}
+use Rattle.airframe.specs.declared.Given.{Given}
+use Rattle.airframe.specs.declared.Given.the-variants.{Inside, Outside}
+use Rattle.airframe.specs.Given.{fieldsNine, commandTyped}
 use Rattle.items.specs.Characters.{space, dash}
 use Rattle.items.specs.declared.Items.{Items}
 use Rattle.items.specs.declared.Items.the-variants.{Good, Bad}
@@ -59,19 +61,13 @@ abbrev pub valueOf : Number → ℤ
 valueOf n = cond (n .minus) (negℤ (pos (n .size))) (pos (n .size))
 
 -- "mode flags seconds milliseconds, priority limit and remaining, memory limit and remaining, poll"
+abbrev pub sizesIn : List Number → List ℕ
+sizesIn l =
+    numberAt l 0 .size ∷ numberAt l 1 .size ∷ numberAt l 2 .size ∷ numberAt l 3 .size ∷ numberAt l 4 .size ∷ numberAt l 5 .size
+    ∷ numberAt l 6 .size ∷ numberAt l 7 .size ∷ numberAt l 8 .size ∷ []
+
 abbrev pub fieldsAsked : List Number → Fields
-fieldsAsked l =
-    record {
-      mode = numberAt l 0 .size;
-      flags = numberAt l 1 .size;
-      seconds = numberAt l 2 .size;
-      milliseconds = numberAt l 3 .size;
-      prioritylimit = numberAt l 4 .size;
-      priorityremaining = numberAt l 5 .size;
-      memorylimit = numberAt l 6 .size;
-      memoryremaining = numberAt l 7 .size;
-      poll = numberAt l 8 .size;
-    }
+fieldsAsked l = fieldsNine (sizesIn l)
 
 -- the commands that carry nothing
 unfoldable pub bareAsked : ℕ → Ask
@@ -136,32 +132,6 @@ askIn t =
 
 -- ---- how the code says it
 
--- the numbers fit their fields' types
-abbrev pub fieldsTyped : Fields → Bool
-fieldsTyped f =
-    ltb (f .mode) (2 ^ 8)
-    && (ltb (f .flags) (2 ^ 16)
-    && (ltb (f .seconds) (2 ^ 32)
-    && (ltb (f .milliseconds) (2 ^ 16)
-    && (ltb (f .prioritylimit) (2 ^ 16)
-    && (ltb (f .priorityremaining) (2 ^ 16)
-    && (ltb (f .memorylimit) (2 ^ 32)
-    && (ltb (f .memoryremaining) (2 ^ 32)
-    && ltb (f .poll) (2 ^ 16))))))))
-
-abbrev pub valueTyped : ℤ → Bool
-valueTyped v = leZ (negℤ (pos (2 ^ 31))) v && ltZ v (pos (2 ^ 31))
-
-unfoldable pub commandTyped : Command → Bool
-commandTyped (Initialise f) = fieldsTyped f
-commandTyped Status = true
-commandTyped (Update f) = fieldsTyped f
-commandTyped (Write id v) = ltb id (2 ^ 8) && valueTyped v
-commandTyped (Read id) = ltb id (2 ^ 8)
-commandTyped Priority = true
-commandTyped Data = true
-commandTyped Shutdown = true
-
 -- "a decimal number too large for its field's type is 20": such a command can't be written down, and is outside; an answer's bytes lie
 -- in lent memory, and their count is said
 unfoldable pub sayAsk : Ask → Line
@@ -171,6 +141,11 @@ sayAsk (hears bs) = line.Hear (length bs)
 sayAsk waits = line.Wait
 sayAsk again = line.Again
 sayAsk other = line.Other
+
+-- nine numbers behind `Q 90` or `Q 92`
+unfoldable pub lineGiven : Bool → Given → Line
+lineGiven initialises (Inside f) = line.Send (cond initialises (Initialise f) (Update f))
+lineGiven initialises Outside = line.Outside
 
 -- a run of bytes that was read, by its count, or another line
 unfoldable pub counted : Items → Line

@@ -5,7 +5,8 @@ use decimals::below;
 use numbers::signed;
 ghost use mathlib.Core.Path.{_≡_};
 ghost use mathlib.Core.Bool.{true};
-ghost use Rattle.aircraft_lines.specs.Asked.{isPlain, valueOf, valueTyped};
+ghost use Rattle.airframe.specs.Given.{valueTyped};
+ghost use Rattle.aircraft_lines.specs.Asked.{isPlain, valueOf};
 
 // A number without a sign.
 pub fn plain(n: Number) -> bool

@@ -59,7 +59,7 @@ fields-sendable f h k =
     record { each = omega arith; milliseconds = omega arith }
 
 sendable : (c : Command) → commandWide c ≡ true → commandFits c ≡ true → Sendable c
-unfolding commandWide commandFits
+unfolding commandFits
 sendable (Initialise f) w h = fields-sendable f h w
 sendable Status w h = tt
 sendable (Update f) w h = fields-sendable f h w

@@ -2,7 +2,7 @@
 use Prim.Native.Nat.{ℕ, _≤_, _<_}
 use native.Mathlib.Omega.{arith}
 use mathlib.Core.Path.{_≡_, refl, sym, ap, _∙_}
-use mathlib.Core.Bool.{Bool, true, false, not, _&&_, _||_}
+use mathlib.Core.Bool.{true, false, not, _&&_, _||_}
 use mathlib.Core.List.{List}
 use borrow.Author.Tests.{ltb-true, ltb-false, ne-eqb, eqb-true, eqb-false, leb-true}
 use lib.Dec.{ltb, leb, eqb}
@@ -13,7 +13,7 @@ use Rattle.packets.specs.Commands.{findIn, codeRow, isCode}
 use Rattle.packets.specs.Reading.{first, second, third, crcRight}
 use Rattle.packets.proofs.Rows.{last-code, of-code, code-answered}
 use Rattle.airframe.specs.Building.{refusalNumber}
-use Rattle.airframe.specs.Reading.{Meant, done, failed, successRight, answerRight, bodyMeant, readAs}
+use Rattle.airframe.specs.Reading.{done, failed, successRight, answerRight, bodyMeant, readAs}
 
 -- no answer that is due is shorter than 5 bytes
 pub five-due : (code : ℕ) → isCode code ≡ true → 5 ≤ codeRow code .answer

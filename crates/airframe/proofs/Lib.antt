@@ -13,3 +13,4 @@ pub mod AnswersRead
 pub mod BytesBack
 pub mod ReadExactly
 pub mod Airframe
+pub mod Typed

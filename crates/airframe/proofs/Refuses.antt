@@ -31,7 +31,7 @@ under h k = omega arith
 laid : (bytes room : List ℕ) → length bytes ≤ 25 → 25 ≤ length room → sets room 0 bytes ≡ bytes ++ drop (length bytes) room
 laid bytes room few enough = rw (sets-eq bytes room 0 (omega arith), zero-add)
 
-refuses : (inside : Bool) (bytes room : List ℕ) → length bytes ≤ 25
+pub refuses : (inside : Bool) (bytes room : List ℕ) → length bytes ≤ 25
     → Refuses inside bytes room (buildOf inside bytes room .said) (buildOf inside bytes room .lent)
 unfolding buildOf ran
 refuses false bytes room few =

@@ -1,10 +1,9 @@
 -- What the aircraft sends: every command and acknowledgement of document 01, from its fields, into a lent room.
 -- Assumes nothing.
 use Prim.Native.Nat.{ℕ, _^_}
-use mathlib.Core.Bool.{Bool, true, false, not, _&&_}
+use mathlib.Core.Bool.{Bool, true, not, _&&_}
 use mathlib.Core.List.{List, [], _∷_}
 use lib.Dec.{ltb, leb}
-use lib.IntN.{ℤ}
 use lib.ListN.{length}
 use lib.Seq.{sets}
 use Rattle.rows.specs.Rows.{Row, row, Said, refused, gave, Out, out, ran}
@@ -41,7 +40,7 @@ commandFits Shutdown = true
 unfoldable pub fieldsWide : Fields → Bool
 fieldsWide f = ltb (f .flags) (2 ^ 16) && (ltb (f .prioritylimit) (2 ^ 16) && ltb (f .memorylimit) (2 ^ 32))
 
-unfoldable pub commandWide : Command → Bool
+abbrev pub commandWide : Command → Bool
 commandWide (Initialise f) = fieldsWide f
 commandWide Status = true
 commandWide (Update f) = fieldsWide f

@@ -1,4 +1,5 @@
 pub mod Building
+pub mod Given
 pub mod Reading
 pub mod Sending
 pub mod Statements

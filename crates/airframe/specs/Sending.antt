@@ -22,6 +22,10 @@ pub data Came : Type 0 where
   silence : Came
   answer : List ℕ → Came
 
+abbrev pub isOver : Sending → Bool
+isOver Over = true
+isOver (Awaiting code left) = false
+
 -- one send, and "up to three times" more
 unfoldable pub sent : ℕ → Sending
 sent code = Awaiting code Three

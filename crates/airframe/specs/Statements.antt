@@ -2,18 +2,17 @@
 -- Assumes nothing.
 use Prim.Native.Nat.{ℕ, suc, _^_, _<_, _≤_}
 use mathlib.Core.Path.{_≡_}
-use mathlib.Core.Bool.{Bool, true, false, cond, _&&_}
+use mathlib.Core.Bool.{Bool, true, false, cond}
 use mathlib.Core.List.{List, [], _∷_, _++_}
 use mathlib.Core.Option.{none, some}
 use mathlib.Core.Logic.{_↔_, _⊎_}
-use lib.Dec.{ltb}
 use lib.IntN.{ℤ}
 use lib.Signed.{mag}
 use lib.ListN.{length, take, drop, getD, set}
 use Rattle.rows.specs.Rows.{Said, refused, gave}
 use Rattle.packets.specs.declared.Command.{Command}
 use Rattle.packets.specs.declared.Parsed.the-variants.{Error, Acknowledgement, Asked}
-use Rattle.packets.specs.Reading.{first, crcRight, packetRead}
+use Rattle.packets.specs.Reading.{first, packetRead}
 use Rattle.packets.specs.declared.Report.{Report}
 use Rattle.packets.specs.Commands.{isCode, commandRow}
 use Rattle.packets.specs.Answers.{commandBytes, answerOf, errorAnswer, doneAnswer, valueAnswer, dataAnswer}

@@ -1,13 +1,22 @@
 // The aircraft's half of the packet port: commands and acknowledgements built, answers read, and when to send again.
 mod building;
+mod nine;
 mod reading;
 mod steps;
 
 pub use building::acknowledge;
 pub use building::build;
+pub use nine::fields_given;
+use packets::Fields;
 pub use reading::block;
 pub use reading::ids;
 pub use reading::read;
+
+// Nine numbers as the fields of an Initialise or an Update, or one of them is too large for its field.
+pub enum Given {
+    Inside(Fields),
+    Outside,
+}
 
 // An acknowledgement by its form: the 0x01 form, or the 0x09 form with its error byte.
 pub enum Form {

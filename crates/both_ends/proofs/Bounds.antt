@@ -26,7 +26,7 @@ use Rattle.rules.specs.State.{Lent}
 use Rattle.rules.specs.Obey.{Meant, fieldCheck, awakeCheck, receiveChecks, checksOf, doneBy, obeyOf}
 use Rattle.rules.proofs.Inside.{pod-in}
 use Rattle.airframe.specs.Building.{fieldsFit, commandFits}
-use Rattle.both_ends.specs.Ends.{holdable, isEnd, spoilsSpan, Shared, BoundsShared}
+use Rattle.both_ends.specs.Ends.{holdable, isEnd, spoilsSpan, BoundsShared}
 
 -- ---- what the pod's check 8 judges
 

@@ -11,14 +11,13 @@ use Rattle.blocks.specs.Stores.{capacityOf, oldestOf}
 use Rattle.packets.specs.declared.Command.{Command}
 use Rattle.packets.specs.declared.Command.the-variants as command
 use Rattle.packets.specs.Commands.{commandRow}
-use Rattle.packets.specs.Answers.{commandBytes}
 use Rattle.params.specs.Rules.{inSpan, stored}
 use Rattle.rules.specs.declared.Pod.{Pod}
 use Rattle.rules.specs.State.{Lent, storeIn, ringOf, soundPod}
 use Rattle.rules.specs.Refusals.{bytes, allRow}
 use Rattle.rules.specs.Obey.{Meant, success, report, value, block, shut, obeyOf, reportOf}
 use Rattle.rules.specs.Calls.{replyBytes}
-use Rattle.rules.specs.World.{World, packet, step, isAnswered}
+use Rattle.rules.specs.World.{World, packet, step}
 use Rattle.airframe.specs.Building.{commandFits, commandWide, commandBuilt}
 use Rattle.airframe.specs.Reading.{Meant as Read, done, failed, status, value as valued, block as blocked, readAs}
 

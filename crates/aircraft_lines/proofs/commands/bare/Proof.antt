@@ -1,6 +1,7 @@
 -- By the code.
 use borrow.Author.Tests.{ne-eqb}
-use Rattle.aircraft_lines.specs.Asked.{bareAsked, commandTyped, sayAsk}
+use Rattle.airframe.specs.Given.{commandTyped}
+use Rattle.aircraft_lines.specs.Asked.{bareAsked, sayAsk}
 use Rattle.aircraft_lines.proofs.commands.bare.Statement.{statement}
 use Rattle.aircraft_lines.proofs.commands.bare.Tie as tie
 

@@ -11,7 +11,8 @@ use borrow.Author.Tests.{ltb-true}
 use Rattle.rows.proofs.Bool.{and-left, and-right, not-true, not-false}
 use Rattle.packets.specs.declared.Command.the-variants.{Write}
 use Rattle.aircraft_lines.specs.declared.Line.the-variants.{Send}
-use Rattle.aircraft_lines.specs.Asked.{isPlain, isValue, valueOf, valueTyped}
+use Rattle.airframe.specs.Given.{valueTyped}
+use Rattle.aircraft_lines.specs.Asked.{isPlain, isValue, valueOf}
 use Rattle.aircraft_lines.proofs.Said.{write-none, write-outside, write-says}
 use borrow.Author.Needs.{needs}
 use Rattle.aircraft_lines.proofs.commands.writes.Statement.{statement}

@@ -1,6 +1,4 @@
 -- The line that is read says what the text asks, and its answer is that of the promise.
-use native.Mathlib.Omega.{arith}
-use mathlib.Core.Path.{_≡_}
 use Rattle.aircraft_lines.specs.Asked.{askIn}
 use Rattle.aircraft_lines.proofs.Heard.{heard-front}
 use borrow.Author.Needs.{needs}

@@ -1,0 +1,10 @@
+pub mod Built
+pub mod Read
+pub mod Stepped
+pub mod Apart
+pub mod Placed
+pub mod Meanings
+pub mod Same
+pub mod Kept
+pub mod Computed
+pub mod Library
