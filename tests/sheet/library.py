@@ -17,7 +17,7 @@ class Library(Part):
 
     def all(self):
         """Each table once."""
-        checks(self.desk, self.check_functions, self.check_types, self.check_refusals, self.check_exports, self.check_names)
+        checks(self.desk, self.check_functions, self.check_types, self.check_refusals, self.check_exports, self.check_names, self.check_cases)
 
     def check_functions(self):
         """Every public function with what it takes and gives, none with a condition; and what the library stands on."""
@@ -89,3 +89,13 @@ class Library(Part):
         found = [(name.removeprefix("TOLMEZHA_"), number) for name, number in NAME.findall((ROOT / HEADER).read_text())]
         if list(zip(table.column(0), table.column(1))) != found:
             table.rows[0].fault("%s has %s" % (HEADER, found))
+
+    def check_cases(self):
+        """The cases that the sheet shows stand in the vectors, and there are some of each kind but the CRC's."""
+        shown = re.findall(r"^    ((?:build|acknowledge|read|send) .* = .*)$", (ROOT / "docs/INTERFACE.md").read_text(), re.M)
+        stored = (ROOT / "include/vectors.txt").read_text().split("\n")
+        for line in shown:
+            if line not in stored:
+                raise Fault("docs/INTERFACE.md: no such case in include/vectors.txt: %s" % line)
+        if {line.split()[0] for line in shown} != {"build", "acknowledge", "read", "send"}:
+            raise Fault("docs/INTERFACE.md: no case of some kind is shown")

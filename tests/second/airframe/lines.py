@@ -9,7 +9,7 @@ other line prints `?`.
 import re
 
 from ports.labels import declare, hit
-from ports.lines import LONGEST, hexed, raw
+from ports.lines import LONGEST, hexed, line_out, raw
 from ports.refusal import Refused
 
 from .building import acknowledgement
@@ -92,26 +92,7 @@ LINES = {"Q": line_q, "Y": line_y, "P": line_p, "N": line_n}
 
 def aircraft_line(aircraft, line):
     """What `aircraft` prints for a line."""
-    if not line:
-        hit("aircraft line: empty")
-        return b"?"
-    if len(line) > LONGEST:
-        hit("aircraft line: too long")
-        return b"?"
-    letter = chr(line[0])
-    if letter not in FORMS:
-        hit("aircraft line: unknown letter")
-        return b"?"
-    match = FORMS[letter].fullmatch(line)
-    if not match:
-        hit("aircraft line %s: malformed" % letter)
-        return b"?"
-    hit("aircraft line %s: called" % letter)
-    try:
-        return LINES[letter](aircraft, match)
-    except Refused as refused:
-        hit("aircraft line %s: refused" % letter)
-        return b"%s !%d" % (letter.encode(), refused.number)
+    return line_out(aircraft, line, FORMS, LINES, "aircraft line")
 
 
 def answers(data):

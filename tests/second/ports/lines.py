@@ -101,35 +101,35 @@ CALLS = {
 }
 
 
-def line_out(pod, line, letters):
+def line_out(state, line, forms, calls, what="line"):
     """One line to one line: the answer, '!' and the refusal's number, or '?'."""
     if not line:
-        hit("line: empty")
+        hit(what + ": empty")
         return b"?"
     if len(line) > LONGEST:
-        hit("line: too long")
+        hit(what + ": too long")
         return b"?"
     letter = chr(line[0])
-    if letter not in letters:
-        hit("line: unknown letter")
+    if letter not in forms:
+        hit(what + ": unknown letter")
         return b"?"
-    match = FORMS[letter].fullmatch(line)
+    match = forms[letter].fullmatch(line)
     if not match:
-        hit("line %s: malformed" % letter)
+        hit("%s %s: malformed" % (what, letter))
         return b"?"
-    hit("line %s: called" % letter)
+    hit("%s %s: called" % (what, letter))
     try:
-        return CALLS[letter](pod, match)
+        return calls[letter](state, match)
     except Refused as refused:
-        hit("line %s: refused" % letter)
+        hit("%s %s: refused" % (what, letter))
         return b"%s !%d" % (letter.encode(), refused.number)
 
 
 def console_line(pod, line):
     """What `console` prints for a line."""
-    return line_out(pod, line, FORMS)
+    return line_out(pod, line, FORMS, CALLS)
 
 
 def session_line(pod, line):
     """What `session` prints for a line."""
-    return line_out(pod, line, ("P",))
+    return line_out(pod, line, {"P": FORMS["P"]}, CALLS)
