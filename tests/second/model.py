@@ -44,6 +44,9 @@ class Pod(Rows, Packets, Commands, Parameters, Blocks, Words, Frames):
         self.limit = {PRIORITY: 0, ORDINARY: 0}
         self.remaining = {PRIORITY: 0, ORDINARY: 0}
         self.exchange = None
+        # for the labels alone: the exchange that was just closed and by what, and whether the fields are an Update's
+        self.late = None
+        self.updated = False
         self.stores_empty()
         self.parameters_to_starts()
         self.words_fresh()

@@ -25,7 +25,7 @@ WEIGHTS = {
     words.load: 6, words.address: 5, words.read: 5, words.whole_table: 0.3, words.stop: 2,
     words.starts: 1, words.bad_command: 8, words.stray: 5, words.status_word: 8,
     bench.put: 12, bench.put_few: 3, bench.put_wrong: 2, bench.fill_priority: 0.5,
-    bench.fill_ordinary: 0, bench.full_asleep: 0.1, bench.drain: 2, bench.samples: 3,
+    bench.fill_ordinary: 0, bench.full_asleep: 0.1, bench.drain: 2, bench.marked: 3, bench.samples: 3,
     bench.bad_samples: 3, bench.pipe_bytes: 5, bench.timeouts: 0.4, bench.timeout: 2,
     bench.one_pipe_byte: 2, bench.deadline: 3, bench.power: 0.4, bench.malformed: 8,
 }

@@ -7,6 +7,14 @@ from .packets import BLOCKS, VALUES, asked, spelled
 from .pages import number, numbers
 
 
+FIRSTS = range(0x90, 0xA0)
+
+
+def acknowledged(firsts, form):
+    """An acknowledgement of each first byte, with what is printed."""
+    return [(asked(sealed(bytes((first,)) + form)), "P -") for first in firsts]
+
+
 class Exchanges(Part):
     """The tables of the exchange."""
 
@@ -29,30 +37,29 @@ class Exchanges(Part):
         """With the first of two priority blocks sent: what comes, what is open then, and which block is sent next."""
         table = self.take("What comes", "Answer", "Exchange", "Block")
         comes = {
-            "an acknowledgement *received* of the open code": (asked(sealed(b"\x95\x01\x7E")), "P -"),
-            "an acknowledgement *received* of another code": (asked(sealed(b"\x96\x01\x7E")), "P -"),
-            "an acknowledgement *failed*": (asked(sealed(b"\x95\x09\x7E")), "P -"),
-            "a damaged packet": ("P 95 01 7E 00 00", self.packets.error(0x95, 0x01)),
-            "a type 2 command without error": (asked(self.packets.packet(0x94, {"id": 3})),
-                                               self.packets.answer(0x94, {"id": 3, "value": 950})),
-            "any other packet": (asked(self.packets.packet(0x93, {"id": 3, "value": 0})), self.packets.error(0x93, 0x39)),
-            "the deadline call": ("D", "D"),
-            "an empty packet": ("P", "P -"),
-            "a call of another port": ("S", "S 0000")}
+            "an acknowledgement *received* of the open code, or of 0x90": acknowledged((0x95, 0x90), b"\x01\x7E"),
+            "an acknowledgement *received* of any other code": acknowledged(set(FIRSTS) - {0x95, 0x90}, b"\x01\x7E"),
+            "an acknowledgement *failed*, of whatever code": acknowledged(FIRSTS, b"\x09\x7E"),
+            "a damaged packet": [("P 95 01 7E 00 00", self.packets.error(0x95, 0x01))],
+            "a type 2 command without error": [(asked(self.packets.packet(0x94, {"id": 3})),
+                                                self.packets.answer(0x94, {"id": 3, "value": 950}))],
+            "any other packet": [(asked(self.packets.packet(0x93, {"id": 3, "value": 0})), self.packets.error(0x93, 0x39))],
+            "the deadline call": [("D", "D")],
+            "an empty packet": [("P", "P -")],
+            "a call of another port": [("S", "S 0000")]}
         if table.column(0) != list(comes):
             table.rows[0].fault("what comes is not: %s" % "; ".join(comes))
         fetch = asked(self.packets.packet(0x95))
         block = [self.packets.answer(0x95, {"block": one}) for one in BLOCKS]
         put = [("B p" + spelled("", one), "B") for one in BLOCKS]
         received = (asked(sealed(b"\x95\x01\x7E")), "P -")
-        for row in table:
-            begun = [self.packets.begin()] + put + [(fetch, block[0]), comes[row[0]]]
+        for row, one in ((row, one) for row in table for one in comes[row[0]]):
+            begun = [self.packets.begin()] + put + [(fetch, block[0]), one]
             dropped = row[3] == "dropped, and remaining falls by 1"
             stays = row[2] == "stays"
             self.case_exchange(row, begun)
             self.desk.case(row.where, begun + [(fetch, block[dropped])])
             self.desk.case(row.where, begun + [received, (fetch, block[dropped or stays])])
-
 
     def case_exchange(self, row, begun):
         """The answer, and what the second model has open then; remaining falls with the block."""

@@ -29,8 +29,8 @@ PARTS = {"limits": "limit", "remainings": "remaining", "open exchange": "exchang
          "parameters": "values", "marks of written parameters": "written", "table words": "tables", "read places": "places",
          "given address": "address", "open transfer": "transfer", "message error": "message_error",
          "gathered bytes": "gathered", "input timeouts": "timeouts"}
-# what the model keeps beside the state: the memory that is lent, and at which sizes
-BESIDE = {"memory", "sizes"}
+# what the model keeps beside the state: the memory that is lent, at which sizes, and what its counts go by
+BESIDE = {"memory", "sizes", "late", "updated"}
 
 
 def borrowed(function):

@@ -74,12 +74,13 @@ fn settle(pod: Pod, exchange: Exchange) -> Pod
     }
 }
 
+// 0x90 counts as the code of whichever exchange is open.
 pub fn acknowledged(pod: Pod, first: u8, one: bool) -> Pod
     requires { ⌜ soundPod pod ≡ true ⌝ }
     ensures { λ r. ⌜ r ≡ acknowledgedOf first one pod ⌝ }
 {
     let exchange = pod.exchange;
-    if one & (first == code(exchange)) {
+    if one & ((first == code(exchange)) | (first == 0x90)) {
         return shut(settle(pod, exchange));
     }
     shut(pod)

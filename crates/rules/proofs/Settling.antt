@@ -2,16 +2,17 @@
 -- Assumes nothing.
 use Prim.Native.Nat.{ℕ}
 use mathlib.Core.Path.{_≡_, refl, _∙_}
-use mathlib.Core.Bool.{Bool, false, _&&_, cond, and-true}
+use mathlib.Core.Bool.{Bool, false, _&&_, _||_, cond, and-true}
 use lib.Dec.{eqb}
 use Rattle.rows.proofs.Bool.{by-test, and-false}
 use Rattle.blocks.specs.declared.Store.{Store}
-use Rattle.packets.specs.Commands.{commandRow}
+use Rattle.blocks.specs.declared.Store.the-variants.{Priority, Ordinary}
+use Rattle.packets.specs.Commands.{commandRow, commandPlace}
 use Rattle.rules.specs.declared.Exchange.{Exchange}
 use Rattle.rules.specs.declared.Exchange.the-variants.{Closed, Status, Read, Receive}
 use Rattle.rules.specs.declared.Pod.{Pod}
-use Rattle.rules.specs.State.{ringOf, remainingOf}
-use Rattle.rules.specs.Obey.{shut, receives, matches, dropFrom, settled, acknowledgedOf}
+use Rattle.rules.specs.State.{ofStore, ringOf, remainingOf}
+use Rattle.rules.specs.Obey.{shut, exchangeCode, matches, dropFrom, settled, acknowledgedOf}
 use Rattle.rules.specs.History.{sameStore, acknowledged}
 use Rattle.rules.proofs.Eventful.{Waits}
 use Rattle.rules.proofs.Stores.{same-test}
@@ -22,11 +23,16 @@ pub data Settles (p : Pod) (first : ℕ) (one : Bool) (x : Exchange) : Pod → T
   drops : (s : Store) → eqb (ringOf s p .waiting) 0 ≡ false → eqb (remainingOf s (p .fields)) 0 ≡ false
       → ((r : Store) → acknowledged r first one x ≡ sameStore r s) → Settles p first one x (shut (dropFrom s p))
 
+-- the pod goes by the code that the command's row has, the history by the number
+coded : (s : Store) → exchangeCode (Receive s) ≡ ofStore s 0x95 0x96
+unfolding commandRow commandPlace
+coded Priority = refl
+coded Ordinary = refl
+
 module _ (first : ℕ) (one : Bool) (p : Pod) where
-  -- an open receive: both the pod and the history go by its code
   receive-acknowledged : (r s : Store) → acknowledged r first one (Receive s) ≡ (sameStore r s && matches first one (Receive s))
   unfolding acknowledged matches
-  receive-acknowledged r s = same-test (λ t. one && eqb first (commandRow (receives t) .code)) r s
+  receive-acknowledged r s = rw (coded s) (same-test (λ t. one && (eqb first (ofStore t 0x95 0x96) || eqb first 0x90)) r s)
 
   settles-by : (x : Exchange) → Waits x p → Settles p first one x (shut (cond (matches first one x) (settled x p) p))
   unfolding settled acknowledged

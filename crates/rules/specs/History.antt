@@ -15,13 +15,11 @@ use Rattle.packets.specs.declared.Command.{Command}
 use Rattle.packets.specs.declared.Command.the-variants as command
 use Rattle.packets.specs.declared.Parsed.{Parsed}
 use Rattle.packets.specs.declared.Parsed.the-variants.{Nothing, Error, Acknowledgement, Asked}
-use Rattle.packets.specs.Commands.{commandRow}
 use Rattle.packets.specs.Reading.{packetRead}
 use Rattle.params.specs.Rows.{paramRow}
 use Rattle.rules.specs.declared.Exchange.{Exchange}
 use Rattle.rules.specs.declared.Exchange.the-variants.{Closed, Status, Read, Receive}
-use Rattle.rules.specs.State.{freshFields}
-use Rattle.rules.specs.Obey.{receives}
+use Rattle.rules.specs.State.{ofStore, freshFields}
 use Rattle.rules.specs.Refusals.{Giving, done, bytes, reads}
 use Rattle.rules.specs.Families.{WordCall, PipeCall, byte, timeout, LoneCall, deadline, pipe}
 use Rattle.rules.specs.World.{World, Call, power, packet, put, word, lone, samples, Told, step, next}
@@ -157,9 +155,10 @@ isReceive s Status = false
 isReceive s Read = false
 isReceive s (Receive r) = sameStore s r
 
--- with that exchange open, a block of the store is acknowledged: the 0x01 form, with the code of its receive
+-- with that exchange open, a block of the store is acknowledged: the 0x01 form, marked as its receive was, 0x95 or 0x96, or, by
+-- request No. 2, 0x90
 unfoldable pub acknowledged : Store → ℕ → Bool → Exchange → Bool
-acknowledged s first one x = isReceive s x && (one && eqb first (commandRow (receives s) .code))
+acknowledged s first one x = isReceive s x && (one && (eqb first (ofStore s 0x95 0x96) || eqb first 0x90))
 
 -- ---- the blocks that wait: "put adds a block behind the others"; acknowledged, "the oldest block of that store is dropped"
 

@@ -110,9 +110,10 @@ exchangeCode Status = commandRow command.Status .code
 exchangeCode Read = commandRow (command.Read 0) .code
 exchangeCode (Receive s) = commandRow (receives s) .code
 
--- "it is the 0x01 form and its first byte equals the open exchange's code"
+-- "it is the 0x01 form and its first byte equals the open exchange's code"; request No. 2: "0x90 closes any open exchange as that
+-- exchange's own code would"
 unfoldable pub matches : ℕ → Bool → Exchange → Bool
-matches first one x = one && eqb first (exchangeCode x)
+matches first one x = one && (eqb first (exchangeCode x) || eqb first 0x90)
 
 -- "the oldest block of that store is dropped and its remaining falls by 1; were the store empty or its remaining 0, neither would change"
 unfoldable pub dropFrom : Store → Pod → Pod

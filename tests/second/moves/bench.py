@@ -71,6 +71,25 @@ def drain(s):
             s.say(put_line(s.rng, store))
 
 
+def marked(s):
+    """An acknowledgement marked 0x90, of either form: of an exchange that is open, of one that
+    a deadline or an Update has closed, and of none."""
+    rng = s.rng
+    code = rng.choice(packets.TYPE_2 + (None,))
+    if code in CAPACITY and not s.pod.waiting[code]:
+        s.say(put_line(rng, code))
+    if code in CAPACITY and not s.pod.remaining[code]:
+        packets.send(s, b"\x92\x01" + packets.fields(rng, True))
+    if code:
+        packets.send(s, packets.bare(rng, code))
+    late = rng.choice((None, None, deadline, packets.update))
+    if late:
+        late(s)
+    packets.send(s, b"\x90" + rng.choice((b"\x01\x7E", bytes((9, rng.randint(0, 255))))))
+    if rng.random() < 0.5:
+        packets.send(s, bytes((code if code in CAPACITY else 0x91, 1)))
+
+
 def sample_line(check, samples):
     """A line of samples."""
     return b"A %02X" % check + b"".join(b" %04X" % sample for sample in samples)

@@ -183,7 +183,7 @@ def acknowledge(s):
     """An acknowledgement of any form."""
     rng = s.rng
     open_code = s.pod.exchange or rng.choice(TYPE_2)
-    code = rng.choice((open_code, open_code, rng.choice(TYPE_2), rng.choice(tuple(COMMANDS)),
+    code = rng.choice((open_code, open_code, 0x90, rng.choice(TYPE_2), rng.choice(tuple(COMMANDS)),
                        rng.choice(NO_CODES)))
     form = rng.choice((b"\x01\x7E", b"\x01\x7E", b"\x01\x7E", b"\x09\x7E", b"\x09\x01",
                        bytes((9, rng.randint(0, 255))), bytes((2, 0x7E)), bytes((1, 0x7F))))

@@ -70,6 +70,7 @@ class Commands:
             hit("packet 92: " + fault)
             return error(code, 0x39)
         self.take_fields(body)
+        self.updated = True
         return done(code)
 
     def status(self, code, _):

@@ -30,6 +30,11 @@ declare("ack 01: nothing open", "ack 01: of another code", "ack 01: drops a prio
         "ack 01: drops an ordinary block", "ack 01: of a status", "ack 01: of a parameter read",
         "ack 09: nothing open", "ack 09: closes and keeps", "ack: not initialised",
         "ack: first byte is no code")
+# request No. 2: marked 0x90, of either form, with an exchange open, with one just closed, with none
+MARK = 0x90
+declare(*["ack 90 %s: %02X %s" % (form, code, ending) for form in ("01", "09") for code in (0x91, 0x94, PRIORITY, ORDINARY)
+          for ending in ("is open", "was closed by a deadline", "was closed by an Update")])
+declare("ack 90 01: nothing open", "ack 90 09: nothing open", "ack 90 01: drops, with an Update's remaining")
 
 
 def crc(data):
@@ -73,6 +78,7 @@ class Packets:
             return b""
         # 'Every other non-empty packet closes an open exchange first, keeping the block.'
         exchange, self.exchange = self.exchange, None
+        late, self.late = self.late, None
         if len(packet) < 4:
             hit("packet: under 4 bytes")
             return self.damaged(packet, exchange)
@@ -80,11 +86,16 @@ class Packets:
             hit("packet: CRC wrong")
             return self.damaged(packet, exchange)
         if is_acknowledgement(packet):
+            if packet[0] == MARK:
+                self.marked(packet, exchange, late)
             self.acknowledge(packet, exchange)
             return b""
         if exchange:
             hit("packet: a whole one closes an exchange")
-        return self.command(packet)
+        answer = self.command(packet)
+        if exchange and answer == sealed(b"\x92\x01\x7E"):
+            self.late = exchange, "an Update"
+        return answer
 
     def damaged(self, packet, exchange):
         """'Under 4 bytes, or CRC wrong: 0x01.'"""
@@ -95,12 +106,15 @@ class Packets:
     def acknowledge(self, packet, exchange):
         """'It gets no answer and closes the exchange. If it is the 0x01 form and its first
         byte equals the open exchange's code, and that is 0x95 or 0x96, the oldest block of
-        that store is dropped'."""
+        that store is dropped'; by request No. 2 '0x90 closes any open exchange as that
+        exchange's own code would'."""
         code, form = packet[0], packet[1]
         if not self.initialised:
             hit("ack: not initialised")
         if code not in COMMANDS:
             hit("ack: first byte is no code")
+        if code == MARK and exchange:
+            code = exchange
         if form == 0x09:
             hit("ack 09: closes and keeps" if exchange else "ack 09: nothing open")
         elif exchange is None:
@@ -115,6 +129,19 @@ class Packets:
             self.drop(ORDINARY)
         else:
             hit("ack 01: of a status" if code == 0x91 else "ack 01: of a parameter read")
+
+    def marked(self, packet, exchange, late):
+        """Counts where an acknowledgement marked 0x90 arrives; `late` is the exchange closed
+        last and what closed it, if no packet came since."""
+        start = "ack 90 %02X: " % packet[1]
+        if exchange:
+            hit(start + "%02X is open" % exchange)
+            if exchange in self.waiting and packet[1] == 0x01 and self.updated:
+                hit(start + "drops, with an Update's remaining")
+        elif late:
+            hit(start + "%02X was closed by %s" % late)
+        else:
+            hit(start + "nothing open")
 
     def command(self, packet):
         """Checks 4 to 7, then the command itself."""
@@ -148,4 +175,6 @@ class Packets:
         """'So does the deadline call (2 ms passed).'"""
         self.rows("deadline")
         hit("deadline: closes an exchange" if self.exchange else "deadline: nothing open")
+        if self.exchange:
+            self.late = self.exchange, "a deadline"
         self.exchange = None
