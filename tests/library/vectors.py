@@ -72,7 +72,7 @@ That parameter 1 stays below parameter 2 only the pod judges.
 
 ACKNOWLEDGEMENTS. 5 bytes: a first byte from 90 to 9F, which is the code of the command that was answered; then 01 and 7E for
 'received', or 09 and an error for 'failed'; then the CRC. A status, a value and a block are acknowledged, and the pod answers
-nothing to that.
+nothing to that. It takes 90 for any code too, but a late 90 may drop a block that was not received.
 
 ANSWERS. Byte 0 is the code of the command, byte 1 is 01, or 09 for an error, and the CRC is last.
 

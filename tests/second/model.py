@@ -1,4 +1,4 @@
-"""A second model of the pod, written from document 01 and document 000 alone.
+"""A second model of the pod, written from document 01, document 000 and the requests alone.
 
 It is slow and plain on purpose. Each rule stands beside the sentence that it renders, and
 each of its branches counts its passages (ports/labels.py). `python3 model.py` runs the

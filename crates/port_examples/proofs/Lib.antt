@@ -1,4 +1,5 @@
 pub mod Begun
 pub mod Words
 pub mod Packets
+pub mod Acknowledgements
 pub mod PortExamples

@@ -26,7 +26,7 @@ use Rattle.frames.specs.Samples.{sampleAt, sumOf, averageOf, averagesOf, bounde
 use Rattle.rules.specs.Families.{wordOf, wordLent, pipeOf, loneOf}
 use Rattle.examples.specs.Shown.{justInitialised, AsExpected}
 use Rattle.examples.specs.Computed.{dusty}
-use Rattle.port_examples.specs.Packets.{Talks, checks, keeps, unfit, update, updated, marks, exchanges, Packets}
+use Rattle.port_examples.specs.Packets.{Talks, checks, keeps, unfit, update, updated, exchanges, Packets}
 
 pub heard : Talks (world freshPod dusty) checks
 unfolding ran poly leaving bitIn bits bitsIn crcFrom crcOf withCrc answerOf errorAnswer numbersAt fieldsOf fieldsIn fieldsBounded findIn listedIn codeRow isCode commandPlace commandRow highFirst numberOf numberAt crcRight acknowledges packetRead isId inRows soundParams startParams storeSized soundRing placeBehind blockAt blocksFrom blocksIn oldestOf putRing putStore soundPlaces soundTransfer soundWords startWords closeOf listed startTable tablesSized emptyInput freshInput soundInput freshPipe soundPipe powerCall packetHeard meantBody replyBytes spokenBytes answered packetCall putCall checksOf initialisedPod doneBy obeyOf matches settled acknowledgedOf freshFields freshPod restful soundPod step tells
@@ -44,13 +44,9 @@ pub stored : next justInitialised (update .call) .pod .fields ≡ updated
 unfolding ran poly leaving bitIn bits bitsIn crcFrom crcOf withCrc answerOf errorAnswer numbersAt fieldsOf fieldsIn fieldsBounded findIn listedIn codeRow isCode commandPlace commandRow highFirst numberOf numberAt crcRight acknowledges packetRead inRows soundParams startParams storeSized soundRing soundPlaces soundTransfer soundWords startWords closeOf listed startTable tablesSized emptyInput freshInput soundInput freshPipe soundPipe powerCall packetHeard meantBody replyBytes spokenBytes answered packetCall checksOf initialisedPod doneBy obeyOf freshFields freshPod restful soundPod step tells justInitialised commandBytes fieldBytes bodyOf laidOut
 stored = refl
 
-marked : Talks justInitialised marks
-unfolding ran poly leaving bitIn bits bitsIn crcFrom crcOf withCrc answerOf errorAnswer fieldBytes bodyOf commandBytes laidOut numbersAt fieldsOf fieldsIn fieldsBounded findIn listedIn codeRow isCode commandPlace commandRow highFirst numberOf numberAt crcRight acknowledges packetRead isId inRows soundParams startParams storeSized soundRing soundPlaces soundTransfer soundWords startWords closeOf listed startTable tablesSized sentPacket sentBytes emptyInput freshInput soundInput freshPipe soundPipe packetHeard meantBody replyBytes spokenBytes answered packetCall loneCall loneOf checksOf initialisedPod doneBy obeyOf justInitialised freshFields freshPod restful soundPod step tells statusBody filter missingIds missingOf placeBehind blockAt blocksFrom blocksIn oldestOf putRing putStore droppedRing putCall matches dropFrom settled acknowledgedOf reportOf final powerCall
-marked = refl
-
 exchanged : AsExpected exchanges
 unfolding ran poly leaving bitIn bits bitsIn crcFrom crcOf withCrc answerOf errorAnswer fieldBytes bodyOf commandBytes laidOut numbersAt fieldsOf fieldsIn fieldsBounded findIn listedIn codeRow isCode commandPlace commandRow highFirst numberOf numberAt crcRight acknowledges packetRead isId inRows soundParams startParams storeSized soundRing soundPlaces soundTransfer soundWords startWords closeOf statusOf listed startTable tablesSized heldIn sentPacket sentBytes emptyInput freshInput gathers pipeByte countUp pipeTimeout soundInput gatheringOf freshPipe soundPipe placed frame lines03 lines47 framesOf sampleAt sumOf averageOf averagesOf boundedOf powerCall packetHeard meantBody replyBytes spokenBytes answered packetCall wordCall loneCall samplesCall wordOf wordLent pipeOf loneOf checksOf initialisedPod doneBy obeyOf justInitialised freshFields freshPod restful soundPod step final tells statusBody valueBody signedOf unsignedOf writeAllowed filter missingIds missingOf placeBehind blockAt blocksFrom blocksIn oldestOf putRing putStore droppedRing putCall matches dropFrom settled acknowledgedOf reportOf
 exchanged = refl
 
 pub all-packets : Packets
-all-packets = record { asleep = heard; parameters = written; updates = taken; fields = stored; marks = marked; exchanges = exchanged }
+all-packets = record { asleep = heard; parameters = written; updates = taken; fields = stored; exchanges = exchanged }

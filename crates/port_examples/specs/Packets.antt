@@ -50,6 +50,9 @@ checks =
     ∷ asks (0x8F ∷ 0x01 ∷ 0x7E ∷ 0x77 ∷ 0x9F ∷ []) (fails 0x8F 0x02 0x41 0x2D)
     ∷ asks (0x97 ∷ 0x01 ∷ 0x8C ∷ 0x52 ∷ []) (fails 0x97 0x02 0xAB 0xEF)
     ∷ asks (0x97 ∷ 0x01 ∷ 0x7E ∷ 0x9D ∷ 0x5D ∷ []) []
+    -- nor are 90 01 with another third byte, or with none: an Initialise, and too short
+    ∷ asks (0x90 ∷ 0x01 ∷ 0x00 ∷ 0x87 ∷ 0x94 ∷ []) (fails 0x90 0x01 0x1E 0x1C)
+    ∷ asks (0x90 ∷ 0x01 ∷ 0x15 ∷ 0xC5 ∷ []) (fails 0x90 0x01 0x1E 0x1C)
     -- awake, a block is sent; the 09 form gets no answer and keeps it, and of 4 bytes it is no acknowledgement
     ∷ asks
     (0x90 ∷ 0x01 ∷ 0x01 ∷ 0x12 ∷ 0x34 ∷ 0x00 ∷ 0x00 ∷ 0x14 ∷ 0xFA ∷ 0x00 ∷ 0x04 ∷ 0x00 ∷ 0x02 ∷ 0x00 ∷ 0x00 ∷ 0x00 ∷ 0x09 ∷ 0x00 ∷ 0x00 ∷ 0x00 ∷ 0x01 ∷ 0x03 ∷ 0xE8 ∷ 0x31 ∷ 0x04 ∷ [])
@@ -120,61 +123,17 @@ fetched =
     ∷ asks (0x96 ∷ 0x01 ∷ 0x7E ∷ 0xAA ∷ 0x6D ∷ []) []
     ∷ [])
 
--- an acknowledgement marked 0x90, of the 01 form and of the 09 form
-abbrev pub markTaken : TalkTurn
-markTaken = asks (0x90 ∷ 0x01 ∷ 0x7E ∷ 0x18 ∷ 0xCD ∷ []) []
-
-abbrev pub markFailed : TalkTurn
-markFailed = asks (0x90 ∷ 0x09 ∷ 0x01 ∷ 0x1E ∷ 0x1C ∷ []) []
-
--- the priority block and the ordinary block are sent
-abbrev pub sendsPriority : TalkTurn
-sendsPriority = asks (0x95 ∷ 0x01 ∷ 0xEA ∷ 0x30 ∷ []) (0x95 ∷ 0x01 ∷ replicate 256 0x11 ++ (0xE0 ∷ 0xFC ∷ []))
-
-abbrev pub sendsOrdinary : TalkTurn
-sendsOrdinary = asks (0x96 ∷ 0x01 ∷ 0xBF ∷ 0x63 ∷ []) (0x96 ∷ 0x01 ∷ replicate 256 0x44 ++ (0x09 ∷ 0xA4 ∷ []))
-
--- request No. 2: "0x90 closes any open exchange as that exchange's own code would"
-abbrev pub marks : List TalkTurn
-marks =
-    update
-    ∷ brings Priority 0x11
-    ∷ brings Ordinary 0x44
-    -- document 002's worked exchange, a Status so acknowledged: no block goes
-    ∷ asks (0x91 ∷ 0x01 ∷ 0x26 ∷ 0xF4 ∷ [])
-    (0x91 ∷ 0x01 ∷ 0x02 ∷ 0xAB ∷ 0xCD ∷ 0x00 ∷ 0x01 ∷ 0x00 ∷ 0x00 ∷ 0x00 ∷ 0x01 ∷ 0x00 ∷ 0x01 ∷ 0x02 ∷ 0x03 ∷ 0x06 ∷ 0x07 ∷ 0x00 ∷ 0x00 ∷ 0x00 ∷ 0x4A ∷ 0xB5 ∷ [])
-    ∷ markTaken
-    -- the 09 form keeps the block, so does a mark behind the deadline; the 01 form drops it
-    ∷ sendsPriority
-    ∷ markFailed
-    ∷ sendsPriority
-    ∷ record { call = lone deadline; told = told (gave done) [] }
-    ∷ markTaken
-    ∷ sendsPriority
-    ∷ markTaken
-    ∷ asks (0x95 ∷ 0x01 ∷ 0xEA ∷ 0x30 ∷ []) (fails 0x95 0x3A 0x72 0xD4)
-    -- another code keeps the block, and closes: a mark behind it finds nothing open
-    ∷ sendsOrdinary
-    ∷ asks (0x91 ∷ 0x01 ∷ 0x7E ∷ 0x2F ∷ 0xFD ∷ []) []
-    ∷ markTaken
-    ∷ sendsOrdinary
-    ∷ markTaken
-    ∷ asks (0x96 ∷ 0x01 ∷ 0xBF ∷ 0x63 ∷ []) (fails 0x96 0x3A 0x2B 0x84)
-    ∷ []
-
 -- a pipe call, a table word, samples, a put and an empty packet
 abbrev pub beside : List Call
 beside =
     lone (pipe (byte 9)) ∷ lone (pipe timeout) ∷ word status ∷ samples 0 (replicate 128 0) ∷ put Priority (replicate 256 7) ∷ packet [] (replicate 260 0) ∷ []
 
--- what is open after a read of a parameter: "closes an open exchange .. So does the deadline call", and none of those, and a mark
--- of either form; "its remaining falls by 1", and no other field changes; an Update keeps gathered bytes
+-- what is open after a read of a parameter: "closes an open exchange .. So does the deadline call", and none of those; "its remaining
+-- falls by 1", and no other field changes; an Update keeps gathered bytes
 abbrev pub exchanges : List ComputedLine
 exchanges =
     line (openAfter (asksValue ++ (lone deadline ∷ []))) (0 ∷ [])
     ∷ line (openAfter (asksValue ++ beside)) (0x94 ∷ [])
-    ∷ line (openAfter (asksValue ++ (markTaken .call ∷ []))) (0 ∷ [])
-    ∷ line (openAfter (asksValue ++ (markFailed .call ∷ []))) (0 ∷ [])
     ∷ line (fieldsListed (final justInitialised fetched .pod .fields)) (2 ∷ 0xABCD ∷ 7 ∷ 999 ∷ 3 ∷ 0 ∷ 5 ∷ 3 ∷ 60000 ∷ [])
     ∷ line (sentAfter (bytesIn (1 ∷ 2 ∷ []) ++ (update .call ∷ [])) timeout) (1 ∷ 2 ∷ [])
     ∷ []
@@ -184,5 +143,4 @@ pub record Packets : Type 0 where
   pub parameters : Talks justInitialised keeps
   pub updates : Talks justInitialised (unfit ∷ update ∷ [])
   pub fields : next justInitialised (update .call) .pod .fields ≡ updated
-  pub marks : Talks justInitialised marks
   pub exchanges : AsExpected exchanges

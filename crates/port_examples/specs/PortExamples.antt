@@ -2,7 +2,9 @@
 -- Assumes nothing.
 use Rattle.port_examples.specs.Words.{WordsComputed}
 use Rattle.port_examples.specs.Packets.{Packets}
+use Rattle.port_examples.specs.Acknowledgements.{Acknowledgements}
 
 pub record PortExamples : Type 0 where
   pub words : WordsComputed
   pub packets : Packets
+  pub acknowledgements : Acknowledgements

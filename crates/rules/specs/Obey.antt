@@ -111,7 +111,7 @@ exchangeCode Read = commandRow (command.Read 0) .code
 exchangeCode (Receive s) = commandRow (receives s) .code
 
 -- "it is the 0x01 form and its first byte equals the open exchange's code"; request No. 2: "0x90 closes any open exchange as that
--- exchange's own code would"
+-- exchange's own code would" (with none open, `settled` changes nothing)
 unfoldable pub matches : ℕ → Bool → Exchange → Bool
 matches first one x = one && (eqb first (exchangeCode x) || eqb first 0x90)
 

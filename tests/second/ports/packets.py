@@ -34,6 +34,9 @@ declare("ack 01: nothing open", "ack 01: of another code", "ack 01: drops a prio
 MARK = 0x90
 declare(*["ack 90 %s: %02X %s" % (form, code, ending) for form in ("01", "09") for code in (0x91, 0x94, PRIORITY, ORDINARY)
           for ending in ("is open", "was closed by a deadline", "was closed by an Update")])
+# each first byte with a receive open, of either form
+declare(*["ack %02X %s: with %02X open" % (first, form, code) for first in range(0x90, 0xA0) for form in ("01", "09")
+          for code in (PRIORITY, ORDINARY)])
 declare("ack 90 01: nothing open", "ack 90 09: nothing open", "ack 90 01: drops, with an Update's remaining")
 
 
@@ -113,6 +116,8 @@ class Packets:
             hit("ack: not initialised")
         if code not in COMMANDS:
             hit("ack: first byte is no code")
+        if exchange in self.waiting:
+            hit("ack %02X %02X: with %02X open" % (code, form, exchange))
         if code == MARK and exchange:
             code = exchange
         if form == 0x09:

@@ -1,0 +1,51 @@
+-- Acknowledgements, by computation.
+-- Assumes nothing.
+use mathlib.Core.Path.{_≡_, refl}
+use mathlib.Core.Bool.{Bool, true, false}
+use mathlib.Core.List.{[], _∷_, map}
+use lib.ListN.{replicate}
+use Rattle.blocks.specs.declared.Store.{Store}
+use Rattle.blocks.specs.declared.Store.the-variants.{Priority, Ordinary}
+use Rattle.rules.specs.declared.Exchange.{Exchange}
+use Rattle.rules.specs.declared.Exchange.the-variants.{Closed, Status, Read, Receive}
+use Rattle.rows.specs.Rows.{ran}
+use Rattle.crc.specs.Crc.{poly, leaving, bitIn, bits, bitsIn, crcFrom, crcOf}
+use Rattle.packets.specs.Answers.{withCrc, answerOf, errorAnswer, statusBody, fieldBytes, bodyOf, commandBytes}
+use Rattle.packets.specs.Commands.{fieldsOf, fieldsIn, fieldsBounded, findIn, listedIn, codeRow, isCode, commandPlace, commandRow}
+use Rattle.numbers.specs.Layout.{laidOut, numbersAt}
+use Rattle.numbers.specs.Numbers.{highFirst, numberOf, numberAt}
+use Rattle.packets.specs.Reading.{crcRight, acknowledges, packetRead}
+use Rattle.params.specs.Rules.{isId, inRows, soundParams, startParams, filter, missingIds, missingOf}
+use Rattle.blocks.specs.Stores.{storeSized, soundRing, placeBehind, blockAt, blocksFrom, blocksIn, oldestOf, putRing, putStore, droppedRing}
+use Rattle.tables.specs.Bounds.{soundPlaces, soundTransfer, soundWords}
+use Rattle.tables.specs.Port.{startWords, closeOf}
+use Rattle.tables.specs.Tables.{listed, startTable, tablesSized}
+use Rattle.pipe.specs.Input.{emptyInput, freshInput, soundInput, sentPacket, sentBytes}
+use Rattle.pipe.specs.Pipe.{freshPipe, soundPipe}
+use Rattle.rules.specs.Calls.{powerCall, packetHeard, meantBody, replyBytes, spokenBytes, answered, packetCall, putCall, loneCall}
+use Rattle.rules.specs.Obey.{checksOf, initialisedPod, doneBy, obeyOf, matches, settled, acknowledgedOf, reportOf, dropFrom}
+use Rattle.rules.specs.State.{freshFields, freshPod, restful, soundPod}
+use Rattle.rules.specs.World.{step, tells, final}
+use Rattle.rules.specs.Families.{loneOf}
+use Rattle.examples.specs.Shown.{justInitialised}
+use Rattle.port_examples.specs.Packets.{Talks}
+use Rattle.port_examples.specs.Acknowledgements.{acknowledged90, left, kept, Acknowledgements}
+
+talked : Talks justInitialised acknowledged90
+unfolding ran poly leaving bitIn bits bitsIn crcFrom crcOf withCrc answerOf errorAnswer fieldBytes bodyOf commandBytes laidOut numbersAt fieldsOf fieldsIn fieldsBounded findIn listedIn codeRow isCode commandPlace commandRow highFirst numberOf numberAt crcRight acknowledges packetRead isId inRows soundParams startParams storeSized soundRing soundPlaces soundTransfer soundWords startWords closeOf listed startTable tablesSized sentPacket sentBytes emptyInput freshInput soundInput freshPipe soundPipe packetHeard meantBody replyBytes spokenBytes answered packetCall loneCall loneOf checksOf initialisedPod doneBy obeyOf justInitialised freshFields freshPod restful soundPod step tells statusBody filter missingIds missingOf placeBehind blockAt blocksFrom blocksIn oldestOf putRing putStore droppedRing putCall matches dropFrom settled acknowledgedOf reportOf final powerCall
+talked = refl
+
+others-kept : (one : Bool) → map (λ (x : Exchange). left x one) (Closed ∷ Status ∷ Read ∷ []) ≡ replicate 3 (replicate 16 kept)
+unfolding matches settled acknowledgedOf initialisedPod freshPod commandRow commandPlace
+others-kept true = refl
+others-kept false = refl
+
+failed-kept : (s : Store) → left (Receive s) false ≡ replicate 16 kept
+unfolding matches settled acknowledgedOf initialisedPod freshPod
+failed-kept Priority = refl
+failed-kept Ordinary = refl
+
+pub all-acknowledgements : Acknowledgements
+unfolding matches settled acknowledgedOf initialisedPod freshPod commandRow commandPlace dropFrom droppedRing placeBehind
+all-acknowledgements =
+    record { talk = talked; others = others-kept; failed = failed-kept; priority = refl; ordinary = refl }
