@@ -1,8 +1,9 @@
 #!/usr/bin/env python3
 """Holds the logs of the must-fail edits against what the edits are for. `rt must-fail` asks that each edit is refused; one edit
-may hold a wrong line for each of several functions, so here each of these functions must have been refused by itself, and
-under each edit that docs/PROMISES.md names for a statement that statement's proof must have failed, by itself or because a law
-that it goes by failed; no edit may be one that is not well formed. Needs target/must-fail, as `rt ci` or `rt must-fail` leave it."""
+may hold a wrong line for each of several functions, or several wrong rules with a name each. So here each of these functions must
+have been refused by itself, each wrong rule at facts that no other rule of its edit has, and under each edit or wrong rule that
+docs/PROMISES.md names for a statement that statement's proof must have failed, by itself or because a law that it goes by failed;
+no edit may be one that is not well formed. Needs target/must-fail, as `rt ci` or `rt must-fail` leave it."""
 import pathlib
 import re
 import sys
@@ -15,6 +16,8 @@ BESIDE = ('pod', 'line_loop', 'aircraft_loop', 'vectors', 'repeats')
 # the crates that have statements, each with the record that holds all of them
 WHOLE = {'rules': 'Whole', 'examples': 'Examples', 'port_examples': 'PortExamples', 'airframe': 'Statements', 'both_ends': 'Ends',
          'aircraft_lines': 'Statements', 'aircraft_answers': 'Statements', 'tolmezha': 'Statements'}
+# a wrong rule with a name, and the facts that fail of it and of no other rule in its edit
+RULE = re.compile(r'^# (\w+): .*\n# refused at: (.*)$', re.M)
 HEAD = re.compile(r'^\s*(?:pub )?(?:extern "C" )?fn (\w+)', re.M)
 failures = []
 
@@ -99,6 +102,22 @@ def formed():
             fail(f'{crate}/{edit.stem}: a definition of the edit can not be read')
 
 
+def rules():
+    """Each wrong rule is refused at facts of its own: they fail, and not for want of another."""
+    count = 0
+    for edit in sorted(ROOT.glob('crates/*/must-fail/*.edit')):
+        log = log_of(edit.parent.parent.name, edit.stem)
+        failed = {name for name, why in re.findall(r'error: `([^`]*)`: (.*)', log) if 'was not admitted' not in why}
+        taken = set()
+        for label, names in RULE.findall(edit.read_text()):
+            count += 1
+            own = set(names.split(', '))
+            if own & taken or not own <= failed:
+                fail(f'{edit.stem}: {label} is not refused at {names}, and at these alone')
+            taken |= own
+    return count
+
+
 def proof_of(statement):
     return PROOFS.get(statement) or re.sub(r'(?<=.)([A-Z])', r'-\1', statement).lower()
 
@@ -113,12 +132,14 @@ def rows():
 
 
 def edit_of(label):
-    """The crate and the name of an edit; where the table gives no crate, the one that has it."""
-    crate, _, edit = label.rpartition('/')
+    """The crate and the name of an edit, or of the edit that has a wrong rule of this name; where the table gives no crate, the
+    one that has it."""
+    crate, _, wanted = label.rpartition('/')
     for name in [crate] if crate else WHOLE:
-        if (ROOT / 'crates' / name / 'must-fail' / f'{edit}.edit').exists():
-            return name, edit
-    return None, edit
+        for edit in sorted((ROOT / 'crates' / name / 'must-fail').glob('*.edit')):
+            if wanted == edit.stem or wanted in (rule for rule, _ in RULE.findall(edit.read_text())):
+                return name, edit.stem
+    return None, wanted
 
 
 def fields(path):
@@ -147,10 +168,11 @@ def statements():
 
 def main():
     formed()
-    lines, open_to_all, said = functions(), publics(), statements()
+    lines, open_to_all, wrong, said = functions(), publics(), rules(), statements()
     if failures:
         return 1
-    print(f'edits: ok, {lines} wrong lines refused at their functions, {open_to_all} public functions, {said} statements not proved under theirs')
+    print(f'edits: ok, {lines} wrong lines refused at their functions, {open_to_all} public functions, {wrong} wrong rules each at a fact of '
+          f'its own, {said} statements not proved under theirs')
     return 0
 
 

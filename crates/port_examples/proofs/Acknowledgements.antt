@@ -1,12 +1,16 @@
 -- Acknowledgements, by computation.
 -- Assumes nothing.
+use Prim.Native.Nat.{ℕ, suc, _-_}
+use lib.Dec.{eqb}
+use native.Mathlib.Omega.{arith}
+use borrow.Author.Tests.{ne-eqb}
+use Rattle.rules.specs.State.{Lent}
 use mathlib.Core.Path.{_≡_, refl}
 use mathlib.Core.Bool.{Bool, true, false}
 use mathlib.Core.List.{[], _∷_, map}
 use lib.ListN.{replicate}
 use Rattle.blocks.specs.declared.Store.{Store}
 use Rattle.blocks.specs.declared.Store.the-variants.{Priority, Ordinary}
-use Rattle.rules.specs.declared.Exchange.{Exchange}
 use Rattle.rules.specs.declared.Exchange.the-variants.{Closed, Status, Read, Receive}
 use Rattle.rows.specs.Rows.{ran}
 use Rattle.crc.specs.Crc.{poly, leaving, bitIn, bits, bitsIn, crcFrom, crcOf}
@@ -29,23 +33,36 @@ use Rattle.rules.specs.World.{step, tells, final}
 use Rattle.rules.specs.Families.{loneOf}
 use Rattle.examples.specs.Shown.{justInitialised}
 use Rattle.port_examples.specs.Packets.{Talks}
-use Rattle.port_examples.specs.Acknowledgements.{acknowledged90, left, kept, Acknowledgements}
+use Rattle.port_examples.specs.Acknowledgements.{acknowledged90, Sending, sending, kept, gone, Leaves, Acknowledgements}
 
 talked : Talks justInitialised acknowledged90
 unfolding ran poly leaving bitIn bits bitsIn crcFrom crcOf withCrc answerOf errorAnswer fieldBytes bodyOf commandBytes laidOut numbersAt fieldsOf fieldsIn fieldsBounded findIn listedIn codeRow isCode commandPlace commandRow highFirst numberOf numberAt crcRight acknowledges packetRead isId inRows soundParams startParams storeSized soundRing soundPlaces soundTransfer soundWords startWords closeOf listed startTable tablesSized sentPacket sentBytes emptyInput freshInput soundInput freshPipe soundPipe packetHeard meantBody replyBytes spokenBytes answered packetCall loneCall loneOf checksOf initialisedPod doneBy obeyOf justInitialised freshFields freshPod restful soundPod step tells statusBody filter missingIds missingOf placeBehind blockAt blocksFrom blocksIn oldestOf putRing putStore droppedRing putCall matches dropFrom settled acknowledgedOf reportOf final powerCall
 talked = refl
 
-others-kept : (one : Bool) → map (λ (x : Exchange). left x one) (Closed ∷ Status ∷ Read ∷ []) ≡ replicate 3 (replicate 16 kept)
-unfolding matches settled acknowledgedOf initialisedPod freshPod commandRow commandPlace
-others-kept true = refl
-others-kept false = refl
+-- where no block was sent, either form
+none-left : (one : Bool) (l : Lent) (g : Sending) → Leaves Closed one l g (replicate 16 (kept g))
+unfolding packetHeard acknowledgedOf matches settled commandRow commandPlace
+none-left true l g = refl
+none-left false l g = refl
 
-failed-kept : (s : Store) → left (Receive s) false ≡ replicate 16 kept
-unfolding matches settled acknowledgedOf initialisedPod freshPod
-failed-kept Priority = refl
-failed-kept Ordinary = refl
+status-left : (one : Bool) (l : Lent) (g : Sending) → Leaves Status one l g (replicate 16 (kept g))
+unfolding packetHeard acknowledgedOf matches settled commandRow commandPlace
+status-left true l g = refl
+status-left false l g = refl
+
+read-left : (one : Bool) (l : Lent) (g : Sending) → Leaves Read one l g (replicate 16 (kept g))
+unfolding packetHeard acknowledgedOf matches settled commandRow commandPlace
+read-left true l g = refl
+read-left false l g = refl
+
+-- a block waits, and may be sent; there is one less
+some : (n : ℕ) → eqb (suc n) 0 ≡ false
+some n = ne-eqb (suc n) 0 (λ e. omega arith)
+
+less : (n : ℕ) → suc n - 1 ≡ n
+less n = omega arith
 
 pub all-acknowledgements : Acknowledgements
-unfolding matches settled acknowledgedOf initialisedPod freshPod commandRow commandPlace dropFrom droppedRing placeBehind
+unfolding packetHeard acknowledgedOf matches settled dropFrom droppedRing placeBehind commandRow commandPlace
 all-acknowledgements =
-    record { talk = talked; others = others-kept; failed = failed-kept; priority = refl; ordinary = refl }
+    record { talk = talked; none = none-left; status = status-left; read = read-left; failed = λ s l g. refl; priority = λ l g. simp (some, less); ordinary = λ l g. simp (some, less) }

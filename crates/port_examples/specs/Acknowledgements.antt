@@ -1,24 +1,22 @@
 -- Acknowledgements, by computation. Request No. 2: "From now 0x90 closes any open exchange as that exchange's own code would."
 -- Assumes nothing.
-use Prim.Native.Nat.{ℕ}
+use Prim.Native.Nat.{ℕ, suc}
 use mathlib.Core.Path.{_≡_}
 use mathlib.Core.Bool.{Bool, true, false}
 use mathlib.Core.List.{List, [], _∷_, _++_, map}
 use lib.ListN.{replicate}
-use Rattle.rows.specs.Rows.{gave}
-use Rattle.blocks.specs.declared.Ring.{Ring}
+use Rattle.rows.specs.Rows.{gave, out}
 use Rattle.blocks.specs.declared.Store.{Store}
 use Rattle.blocks.specs.declared.Store.the-variants.{Priority, Ordinary}
-use Rattle.packets.specs.declared.Fields.{Fields}
+use Rattle.packets.specs.declared.Parsed.the-variants.{Acknowledgement}
 use Rattle.rules.specs.declared.Exchange.{Exchange}
 use Rattle.rules.specs.declared.Exchange.the-variants.{Closed, Status, Read, Receive}
 use Rattle.rules.specs.declared.Pod.{Pod}
-use Rattle.rules.specs.State.{withExchange, withRing}
-use Rattle.rules.specs.Obey.{initialisedPod, exchangeCode, acknowledgedOf}
+use Rattle.rules.specs.State.{Lent, withExchange, withRing, withFields, withRemaining}
+use Rattle.rules.specs.Calls.{silent, packetHeard}
 use Rattle.rules.specs.Refusals.{done}
 use Rattle.rules.specs.Families.{deadline}
 use Rattle.rules.specs.World.{lone, told}
-use Rattle.rules.specs.Kept.{fieldsListed}
 use Rattle.examples.specs.Shown.{justInitialised}
 use Rattle.examples.specs.Computed.{TalkTurn, asks, brings}
 use Rattle.port_examples.specs.Packets.{Talks, fails, update}
@@ -30,7 +28,7 @@ abbrev pub taken90 : TalkTurn
 taken90 = asks (0x90 ∷ 0x01 ∷ 0x7E ∷ 0x18 ∷ 0xCD ∷ []) []
 
 abbrev pub failed90 : TalkTurn
-failed90 = asks (0x90 ∷ 0x09 ∷ 0x01 ∷ 0x1E ∷ 0x1C ∷ []) []
+failed90 = asks (0x90 ∷ 0x09 ∷ 0x7E ∷ 0x91 ∷ 0x64 ∷ []) []
 
 -- the oldest block of each store is sent
 abbrev pub sendsPriority : TalkTurn
@@ -73,13 +71,14 @@ acknowledged90 =
     (0x90 ∷ 0x01 ∷ 0x7E ∷ 0x00 ∷ 0x00 ∷ 0x00 ∷ 0x00 ∷ 0x00 ∷ 0x00 ∷ 0x00 ∷ 0x10 ∷ 0x00 ∷ 0x10 ∷ 0x00 ∷ 0x00 ∷ 0x00 ∷ 0x80 ∷ 0x00 ∷ 0x00 ∷ 0x00 ∷ 0x80 ∷ 0x03 ∷ 0xE8 ∷ 0x79 ∷ 0x36 ∷ [])
     (fails 0x90 0x39 0xA9 0x47)
     ∷ taken90
-    -- one block is dropped and no more
+    -- one block is dropped and no more; then the last one
     ∷ sendsOrdinary
     ∷ taken90
     ∷ taken90
     ∷ asks (0x96 ∷ 0x01 ∷ 0xBF ∷ 0x63 ∷ []) (0x96 ∷ 0x01 ∷ replicate 256 0x55 ++ (0x0B ∷ 0x7D ∷ []))
+    ∷ taken90
     ∷ asks (0x91 ∷ 0x01 ∷ 0x26 ∷ 0xF4 ∷ [])
-    (0x91 ∷ 0x01 ∷ 0x02 ∷ 0xAB ∷ 0xCD ∷ 0x00 ∷ 0x01 ∷ 0x00 ∷ 0x00 ∷ 0x00 ∷ 0x01 ∷ 0x00 ∷ 0x01 ∷ 0x02 ∷ 0x03 ∷ 0x06 ∷ 0x07 ∷ 0x00 ∷ 0x00 ∷ 0x00 ∷ 0x4A ∷ 0xB5 ∷ [])
+    (0x91 ∷ 0x01 ∷ 0x02 ∷ 0xAB ∷ 0xCD ∷ 0x00 ∷ 0x01 ∷ 0x00 ∷ 0x00 ∷ 0x00 ∷ 0x00 ∷ 0x00 ∷ 0x01 ∷ 0x02 ∷ 0x03 ∷ 0x06 ∷ 0x07 ∷ 0x00 ∷ 0x00 ∷ 0x00 ∷ 0x25 ∷ 0xF0 ∷ [])
     ∷ []
 
 -- ---- each first byte that the form allows, of each form, on each exchange
@@ -87,37 +86,39 @@ acknowledged90 =
 abbrev pub firsts : List ℕ
 firsts = 0x90 ∷ 0x91 ∷ 0x92 ∷ 0x93 ∷ 0x94 ∷ 0x95 ∷ 0x96 ∷ 0x97 ∷ 0x98 ∷ 0x99 ∷ 0x9A ∷ 0x9B ∷ 0x9C ∷ 0x9D ∷ 0x9E ∷ 0x9F ∷ []
 
--- two blocks wait in each store, the oldest at its end; two of each may still be sent
-abbrev pub holding : Exchange → Pod
-holding x =
+-- any pod in which an exchange is open: one block and so many more wait in each store, the oldest at its end; one and so many more may
+-- still be sent
+pub record Sending : Type 0 where
+  pub pod : Pod
+  pub waiting : ℕ
+  pub remaining : ℕ
+
+abbrev pub sending : Exchange → Sending → Pod
+sending x g =
     withExchange x
-    (withRing Priority (record { oldest = 15; waiting = 2 })
-    (withRing Ordinary (record { oldest = 127; waiting = 2 })
-    (initialisedPod
-    (record { mode = 1; flags = 2; seconds = 3; milliseconds = 4; prioritylimit = 5; priorityremaining = 2; memorylimit = 7; memoryremaining = 2; poll = 9 }))))
+    (withRing Priority (record { oldest = 15; waiting = suc (g .waiting) })
+    (withRing Ordinary (record { oldest = 127; waiting = suc (g .waiting) })
+    (withFields (withRemaining Priority (suc (g .remaining)) (withRemaining Ordinary (suc (g .remaining)) (g .pod .fields))) (g .pod))))
 
--- what is open, both rings, the nine fields
-abbrev pub podListed : Pod → List ℕ
-podListed p =
-    exchangeCode (p .exchange) ∷ p .priority .oldest ∷ p .priority .waiting ∷ p .ordinary .oldest ∷ p .ordinary .waiting ∷ fieldsListed (p .fields)
+-- the exchange is closed, and nothing else changes ..
+abbrev pub kept : Sending → Pod
+kept g = sending Closed g
 
--- what an acknowledgement leaves of such a pod, first byte by first byte
-abbrev pub left : Exchange → Bool → List (List ℕ)
-left x one = map (λ (first : ℕ). podListed (acknowledgedOf first one (holding x))) firsts
+-- .. or the oldest block of a store is dropped, and its remaining falls by 1
+abbrev pub gone : Store → Sending → Pod
+gone s g = withRing s (record { oldest = 0; waiting = g .waiting }) (withFields (withRemaining s (g .remaining) (kept g .fields)) (kept g))
 
-abbrev pub kept : List ℕ
-kept = 0 ∷ 15 ∷ 2 ∷ 127 ∷ 2 ∷ 1 ∷ 2 ∷ 3 ∷ 4 ∷ 5 ∷ 2 ∷ 7 ∷ 2 ∷ 9 ∷ []
-
-abbrev pub priorityGone : List ℕ
-priorityGone = 0 ∷ 0 ∷ 1 ∷ 127 ∷ 2 ∷ 1 ∷ 2 ∷ 3 ∷ 4 ∷ 5 ∷ 1 ∷ 7 ∷ 2 ∷ 9 ∷ []
-
-abbrev pub ordinaryGone : List ℕ
-ordinaryGone = 0 ∷ 15 ∷ 2 ∷ 0 ∷ 1 ∷ 1 ∷ 2 ∷ 3 ∷ 4 ∷ 5 ∷ 2 ∷ 7 ∷ 1 ∷ 9 ∷ []
+-- an acknowledgement gets no answer, touches nothing that is lent, and leaves these, first byte by first byte
+abbrev pub Leaves : Exchange → Bool → Lent → Sending → List Pod → Type 0
+Leaves x one l g ps = map (λ (first : ℕ). packetHeard (Acknowledgement first one) l (sending x g)) firsts ≡ map (λ (p : Pod). out silent p l) ps
 
 pub record Acknowledgements : Type 0 where
   pub talk : Talks justInitialised acknowledged90
-  -- where no block was sent; of the 09 form; of the 01 form only 0x90 and 0x95, and 0x90 and 0x96, drop one
-  pub others : (one : Bool) → map (λ (x : Exchange). left x one) (Closed ∷ Status ∷ Read ∷ []) ≡ replicate 3 (replicate 16 kept)
-  pub failed : (s : Store) → left (Receive s) false ≡ replicate 16 kept
-  pub priority : left (Receive Priority) true ≡ priorityGone ∷ replicate 4 kept ++ (priorityGone ∷ replicate 10 kept)
-  pub ordinary : left (Receive Ordinary) true ≡ ordinaryGone ∷ replicate 5 kept ++ (ordinaryGone ∷ replicate 9 kept)
+  -- of either form, where no block was sent
+  pub none : (one : Bool) (l : Lent) (g : Sending) → Leaves Closed one l g (replicate 16 (kept g))
+  pub status : (one : Bool) (l : Lent) (g : Sending) → Leaves Status one l g (replicate 16 (kept g))
+  pub read : (one : Bool) (l : Lent) (g : Sending) → Leaves Read one l g (replicate 16 (kept g))
+  -- of the 09 form; of the 01 form only 0x90 and 0x95, and 0x90 and 0x96, drop one
+  pub failed : (s : Store) (l : Lent) (g : Sending) → Leaves (Receive s) false l g (replicate 16 (kept g))
+  pub priority : (l : Lent) (g : Sending) → Leaves (Receive Priority) true l g (gone Priority g ∷ replicate 4 (kept g) ++ (gone Priority g ∷ replicate 10 (kept g)))
+  pub ordinary : (l : Lent) (g : Sending) → Leaves (Receive Ordinary) true l g (gone Ordinary g ∷ replicate 5 (kept g) ++ (gone Ordinary g ∷ replicate 9 (kept g)))

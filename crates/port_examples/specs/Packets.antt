@@ -7,12 +7,17 @@ use lib.ListN.{replicate}
 use Rattle.rows.specs.Rows.{gave}
 use Rattle.blocks.specs.declared.Store.the-variants.{Priority, Ordinary}
 use Rattle.packets.specs.declared.Fields.{Fields}
-use Rattle.rules.specs.State.{freshPod}
+use Rattle.rules.specs.declared.Exchange.{Exchange}
+use Rattle.rules.specs.declared.Exchange.the-variants.{Closed, Status, Read, Receive}
+use Rattle.rules.specs.declared.Pod.{Pod}
+use Rattle.rules.specs.State.{withExchange, withRing, freshPod}
+use Rattle.rules.specs.Obey.{initialisedPod, exchangeCode}
 use Rattle.rules.specs.Refusals.{done}
 use Rattle.rules.specs.Families.{status, byte, timeout, deadline, pipe}
 use Rattle.rules.specs.World.{World, world, Call, power, packet, put, word, lone, samples, told, next, final, tells}
+use Rattle.rules.specs.Demands.{blank}
 use Rattle.rules.specs.Kept.{fieldsListed}
-use Rattle.examples.specs.Shown.{justInitialised, openAfter, asksValue, ComputedLine, line, AsExpected}
+use Rattle.examples.specs.Shown.{justInitialised, ComputedLine, line, AsExpected}
 use Rattle.examples.specs.Computed.{sentAfter, bytesIn, TalkTurn, asks, brings, dusty}
 
 -- a world tells what each turn expects
@@ -50,9 +55,13 @@ checks =
     ∷ asks (0x8F ∷ 0x01 ∷ 0x7E ∷ 0x77 ∷ 0x9F ∷ []) (fails 0x8F 0x02 0x41 0x2D)
     ∷ asks (0x97 ∷ 0x01 ∷ 0x8C ∷ 0x52 ∷ []) (fails 0x97 0x02 0xAB 0xEF)
     ∷ asks (0x97 ∷ 0x01 ∷ 0x7E ∷ 0x9D ∷ 0x5D ∷ []) []
-    -- nor are 90 01 with another third byte, or with none: an Initialise, and too short
+    -- nor are 90 01 with another third byte, with one byte more, or with none: an Initialise, and too short
     ∷ asks (0x90 ∷ 0x01 ∷ 0x00 ∷ 0x87 ∷ 0x94 ∷ []) (fails 0x90 0x01 0x1E 0x1C)
+    ∷ asks (0x90 ∷ 0x01 ∷ 0x7E ∷ 0x00 ∷ 0x5E ∷ 0x39 ∷ []) (fails 0x90 0x01 0x1E 0x1C)
     ∷ asks (0x90 ∷ 0x01 ∷ 0x15 ∷ 0xC5 ∷ []) (fails 0x90 0x01 0x1E 0x1C)
+    -- nor 90 09 with none, or as long as an Initialise
+    ∷ asks (0x90 ∷ 0x09 ∷ 0x94 ∷ 0xCD ∷ []) (fails 0x90 0x3C 0xF9 0xE2)
+    ∷ asks (0x90 ∷ 0x09 ∷ replicate 21 0 ++ (0x56 ∷ 0xCA ∷ [])) (fails 0x90 0x3C 0xF9 0xE2)
     -- awake, a block is sent; the 09 form gets no answer and keeps it, and of 4 bytes it is no acknowledgement
     ∷ asks
     (0x90 ∷ 0x01 ∷ 0x01 ∷ 0x12 ∷ 0x34 ∷ 0x00 ∷ 0x00 ∷ 0x14 ∷ 0xFA ∷ 0x00 ∷ 0x04 ∷ 0x00 ∷ 0x02 ∷ 0x00 ∷ 0x00 ∷ 0x00 ∷ 0x09 ∷ 0x00 ∷ 0x00 ∷ 0x00 ∷ 0x01 ∷ 0x03 ∷ 0xE8 ∷ 0x31 ∷ 0x04 ∷ [])
@@ -128,12 +137,21 @@ abbrev pub beside : List Call
 beside =
     lone (pipe (byte 9)) ∷ lone (pipe timeout) ∷ word status ∷ samples 0 (replicate 128 0) ∷ put Priority (replicate 256 7) ∷ packet [] (replicate 260 0) ∷ []
 
--- what is open after a read of a parameter: "closes an open exchange .. So does the deadline call", and none of those; "its remaining
--- falls by 1", and no other field changes; an Update keeps gathered bytes
+-- a pod with a block waiting in each store, and what some calls leave of each exchange that can be open in it, and of none
+abbrev pub holding : Pod
+holding = withRing Priority (record { oldest = 0; waiting = 1 }) (withRing Ordinary (record { oldest = 0; waiting = 1 }) (initialisedPod updated))
+
+abbrev pub openThen : List Call → List ℕ
+openThen cs =
+    map (λ (x : Exchange). exchangeCode (final (world (withExchange x holding) blank) cs .pod .exchange))
+    (Closed ∷ Status ∷ Read ∷ Receive Priority ∷ Receive Ordinary ∷ [])
+
+-- "closes an open exchange .. So does the deadline call", and none of those; "its remaining falls by 1", and no other field changes; an
+-- Update keeps gathered bytes
 abbrev pub exchanges : List ComputedLine
 exchanges =
-    line (openAfter (asksValue ++ (lone deadline ∷ []))) (0 ∷ [])
-    ∷ line (openAfter (asksValue ++ beside)) (0x94 ∷ [])
+    line (openThen (lone deadline ∷ [])) (replicate 5 0)
+    ∷ line (openThen beside) (0 ∷ 0x91 ∷ 0x94 ∷ 0x95 ∷ 0x96 ∷ [])
     ∷ line (fieldsListed (final justInitialised fetched .pod .fields)) (2 ∷ 0xABCD ∷ 7 ∷ 999 ∷ 3 ∷ 0 ∷ 5 ∷ 3 ∷ 60000 ∷ [])
     ∷ line (sentAfter (bytesIn (1 ∷ 2 ∷ []) ++ (update .call ∷ [])) timeout) (1 ∷ 2 ∷ [])
     ∷ []
