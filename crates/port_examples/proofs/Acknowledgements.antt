@@ -1,17 +1,12 @@
 -- Acknowledgements, by computation.
 -- Assumes nothing.
 use Prim.Native.Nat.{ℕ, suc, _-_}
-use lib.Dec.{eqb}
 use native.Mathlib.Omega.{arith}
-use borrow.Author.Tests.{ne-eqb}
-use Rattle.rules.specs.State.{Lent}
 use mathlib.Core.Path.{_≡_, refl}
 use mathlib.Core.Bool.{Bool, true, false}
-use mathlib.Core.List.{[], _∷_, map}
-use lib.ListN.{replicate}
-use Rattle.blocks.specs.declared.Store.{Store}
-use Rattle.blocks.specs.declared.Store.the-variants.{Priority, Ordinary}
-use Rattle.rules.specs.declared.Exchange.the-variants.{Closed, Status, Read, Receive}
+use lib.Dec.{eqb}
+use borrow.Author.Tests.{ne-eqb}
+use Rattle.rules.specs.declared.Exchange.the-variants.{Closed, Status, Read}
 use Rattle.rows.specs.Rows.{ran}
 use Rattle.crc.specs.Crc.{poly, leaving, bitIn, bits, bitsIn, crcFrom, crcOf}
 use Rattle.packets.specs.Answers.{withCrc, answerOf, errorAnswer, statusBody, fieldBytes, bodyOf, commandBytes}
@@ -28,32 +23,21 @@ use Rattle.pipe.specs.Input.{emptyInput, freshInput, soundInput, sentPacket, se
 use Rattle.pipe.specs.Pipe.{freshPipe, soundPipe}
 use Rattle.rules.specs.Calls.{powerCall, packetHeard, meantBody, replyBytes, spokenBytes, answered, packetCall, putCall, loneCall}
 use Rattle.rules.specs.Obey.{checksOf, initialisedPod, doneBy, obeyOf, matches, settled, acknowledgedOf, reportOf, dropFrom}
-use Rattle.rules.specs.State.{freshFields, freshPod, restful, soundPod}
+use Rattle.rules.specs.State.{Lent, freshFields, freshPod, restful, soundPod}
 use Rattle.rules.specs.World.{step, tells, final}
 use Rattle.rules.specs.Families.{loneOf}
 use Rattle.examples.specs.Shown.{justInitialised}
 use Rattle.port_examples.specs.Packets.{Talks}
-use Rattle.port_examples.specs.Acknowledgements.{acknowledged90, Sending, sending, kept, gone, Leaves, Acknowledgements}
+use Rattle.port_examples.specs.Acknowledgements.{acknowledged90, Sending, AllKeep, Acknowledgements}
 
 talked : Talks justInitialised acknowledged90
 unfolding ran poly leaving bitIn bits bitsIn crcFrom crcOf withCrc answerOf errorAnswer fieldBytes bodyOf commandBytes laidOut numbersAt fieldsOf fieldsIn fieldsBounded findIn listedIn codeRow isCode commandPlace commandRow highFirst numberOf numberAt crcRight acknowledges packetRead isId inRows soundParams startParams storeSized soundRing soundPlaces soundTransfer soundWords startWords closeOf listed startTable tablesSized sentPacket sentBytes emptyInput freshInput soundInput freshPipe soundPipe packetHeard meantBody replyBytes spokenBytes answered packetCall loneCall loneOf checksOf initialisedPod doneBy obeyOf justInitialised freshFields freshPod restful soundPod step tells statusBody filter missingIds missingOf placeBehind blockAt blocksFrom blocksIn oldestOf putRing putStore droppedRing putCall matches dropFrom settled acknowledgedOf reportOf final powerCall
 talked = refl
 
--- where no block was sent, either form
-none-left : (one : Bool) (l : Lent) (g : Sending) → Leaves Closed one l g (replicate 16 (kept g))
+others-kept : (one : Bool) (l : Lent) (g : Sending) → AllKeep Closed one l g × AllKeep Status one l g × AllKeep Read one l g
 unfolding packetHeard acknowledgedOf matches settled commandRow commandPlace
-none-left true l g = refl
-none-left false l g = refl
-
-status-left : (one : Bool) (l : Lent) (g : Sending) → Leaves Status one l g (replicate 16 (kept g))
-unfolding packetHeard acknowledgedOf matches settled commandRow commandPlace
-status-left true l g = refl
-status-left false l g = refl
-
-read-left : (one : Bool) (l : Lent) (g : Sending) → Leaves Read one l g (replicate 16 (kept g))
-unfolding packetHeard acknowledgedOf matches settled commandRow commandPlace
-read-left true l g = refl
-read-left false l g = refl
+others-kept true l g = (refl, refl, refl)
+others-kept false l g = (refl, refl, refl)
 
 -- a block waits, and may be sent; there is one less
 some : (n : ℕ) → eqb (suc n) 0 ≡ false
@@ -65,4 +49,4 @@ less n = omega arith
 pub all-acknowledgements : Acknowledgements
 unfolding packetHeard acknowledgedOf matches settled dropFrom droppedRing placeBehind commandRow commandPlace
 all-acknowledgements =
-    record { talk = talked; none = none-left; status = status-left; read = read-left; failed = λ s l g. refl; priority = λ l g. simp (some, less); ordinary = λ l g. simp (some, less) }
+    record { talk = talked; others = others-kept; failed = λ s l g. refl; priority = λ l g. simp (some, less); ordinary = λ l g. simp (some, less) }

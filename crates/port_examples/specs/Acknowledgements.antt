@@ -112,13 +112,15 @@ gone s g = withRing s (record { oldest = 0; waiting = g .waiting }) (withFields 
 abbrev pub Leaves : Exchange → Bool → Lent → Sending → List Pod → Type 0
 Leaves x one l g ps = map (λ (first : ℕ). packetHeard (Acknowledgement first one) l (sending x g)) firsts ≡ map (λ (p : Pod). out silent p l) ps
 
+-- all of them keep the blocks
+abbrev pub AllKeep : Exchange → Bool → Lent → Sending → Type 0
+AllKeep x one l g = Leaves x one l g (replicate 16 (kept g))
+
 pub record Acknowledgements : Type 0 where
   pub talk : Talks justInitialised acknowledged90
   -- of either form, where no block was sent
-  pub none : (one : Bool) (l : Lent) (g : Sending) → Leaves Closed one l g (replicate 16 (kept g))
-  pub status : (one : Bool) (l : Lent) (g : Sending) → Leaves Status one l g (replicate 16 (kept g))
-  pub read : (one : Bool) (l : Lent) (g : Sending) → Leaves Read one l g (replicate 16 (kept g))
+  pub others : (one : Bool) (l : Lent) (g : Sending) → AllKeep Closed one l g × AllKeep Status one l g × AllKeep Read one l g
   -- of the 09 form; of the 01 form only 0x90 and 0x95, and 0x90 and 0x96, drop one
-  pub failed : (s : Store) (l : Lent) (g : Sending) → Leaves (Receive s) false l g (replicate 16 (kept g))
+  pub failed : (s : Store) (l : Lent) (g : Sending) → AllKeep (Receive s) false l g
   pub priority : (l : Lent) (g : Sending) → Leaves (Receive Priority) true l g (gone Priority g ∷ replicate 4 (kept g) ++ (gone Priority g ∷ replicate 10 (kept g)))
   pub ordinary : (l : Lent) (g : Sending) → Leaves (Receive Ordinary) true l g (gone Ordinary g ∷ replicate 5 (kept g) ++ (gone Ordinary g ∷ replicate 9 (kept g)))
