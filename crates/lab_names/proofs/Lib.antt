@@ -1,2 +1,3 @@
 pub mod Spelling
 pub mod Runs
+pub mod Joined

@@ -1,72 +1,56 @@
--- Where a place of the table lies: in which run of names.
+-- Runs of names: parts that count with the place, and the last place of a run.
 -- Assumes nothing.
 use Prim.Native.Nat.{ℕ, zero, suc, _+_, _-_, _≤_, _<_}
 use native.Mathlib.Omega.{arith}
 use mathlib.Core.Path.{_≡_, refl, ap, _∙_}
-use mathlib.Core.List.{List, _++_}
-use lib.ListN.{length, getD, List·getD-append}
-use Rattle.lab_names.specs.declared.Name.{Name}
-use Rattle.lab_names.specs.Names.{noName, stateNames, writtenNames, portNames, valueNames, otherNames, names}
-use Rattle.lab_names.proofs.Spelling.{behind-run}
+use mathlib.Core.List.{List, [], _∷_, map}
+use lib.ListN.{take, drop, getD, List·getD-map}
+use lib.Seq.{getD-take, getD-drop}
+use Rattle.lab_sets.specs.declared.Cell.the-variants.{Written}
+use Rattle.lab_names.specs.declared.Part.{Part}
+use Rattle.lab_names.specs.declared.Part.the-variants.{Unknown, Cell as cell, Value}
+use Rattle.lab_names.specs.Names.{Name, noName, stateNames, writtenNames, portNames, valueNames, otherNames, names}
 
-abbrev from-value : List Name
-from-value = valueNames ++ otherNames
+abbrev partOf : Name → Part
+partOf n = n .part
 
-abbrev from-port : List Name
-from-port = portNames ++ from-value
+-- parts that count from a number on
+counted : (ℕ → Part) → ℕ → ℕ → List Part
+counted f k zero = []
+counted f k (suc n) = f k ∷ counted f (suc k) n
 
-abbrev from-written : List Name
-from-written = writtenNames ++ from-port
+counted-at : (f : ℕ → Part) (k n i : ℕ) (d : Part) → i < n → f (k + i) ≡ getD (counted f k n) i d
+unfolding counted
+counted-at f k zero i d h = absurd (omega arith)
+counted-at f k (suc n) zero d h = let e : k + 0 ≡ k = omega arith in ap f e
+counted-at f k (suc n) (suc i) d h =
+    let e : k + suc i ≡ suc k + i = omega arith in
+    ap f e ∙ counted-at f (suc k) n i d (omega arith)
 
-state-length : length stateNames ≡ 10
-unfolding stateNames
-state-length = refl
+-- .. as those of a run of names do, which has n and begins at a place
+by-place : (f : ℕ → Part) (at n i : ℕ) → counted f 1 n ≡ map partOf (take n (drop at names)) → at ≤ i → i < at + n
+    → f (1 + (i - at)) ≡ getD names i noName .part
+by-place f at n i e h k =
+    let j : at + (i - at) ≡ i = omega arith in
+    counted-at f 1 n (i - at) Unknown (omega arith)
+    ∙ ap (λ (ps : List Part). getD ps (i - at) Unknown) e
+    ∙ List·getD-map partOf (take n (drop at names)) (i - at) noName
+    ∙ ap partOf (getD-take n (drop at names) (i - at) noName (omega arith) ∙ getD-drop at names (i - at) noName)
+    ∙ ap (λ (m : ℕ). getD names m noName .part) j
 
-written-length : length writtenNames ≡ 12
-unfolding writtenNames
-written-length = refl
+-- the marks
+pub mark-at : (i : ℕ) → 10 ≤ i → i < 22 → cell (Written (i - 9)) ≡ getD names i noName .part
+unfolding counted names stateNames writtenNames
+mark-at i h k =
+    let e : i - 9 ≡ 1 + (i - 10) = omega arith in
+    ap (λ (m : ℕ). cell (Written m)) e ∙ by-place (λ (m : ℕ). cell (Written m)) 10 12 i refl h k
 
-port-length : length portNames ≡ 10
-unfolding portNames
-port-length = refl
-
-value-length : length valueNames ≡ 12
-unfolding valueNames
-value-length = refl
-
--- behind the first run, the first two, ..
-past-state : (i : ℕ) → 10 ≤ i → getD names i noName ≡ getD from-written (i - 10) noName
-unfolding names
-past-state i h = behind-run stateNames from-written i 10 state-length h
-
-past-written : (i : ℕ) → 22 ≤ i → getD names i noName ≡ getD from-port (i - 22) noName
-past-written i h =
-    let e : i - 10 - 12 ≡ i - 22 = omega arith in
-    past-state i (omega arith) ∙ behind-run writtenNames from-port (i - 10) 12 written-length (omega arith) ∙ ap (λ (k : ℕ). getD from-port k noName) e
-
-past-port : (i : ℕ) → 32 ≤ i → getD names i noName ≡ getD from-value (i - 32) noName
-past-port i h =
-    let e : i - 22 - 10 ≡ i - 32 = omega arith in
-    past-written i (omega arith) ∙ behind-run portNames from-value (i - 22) 10 port-length (omega arith) ∙ ap (λ (k : ℕ). getD from-value k noName) e
-
--- .. and in each
-pub in-state : (i : ℕ) → i < 10 → getD names i noName ≡ getD stateNames i noName
-unfolding names
-in-state i h = List·getD-append stateNames from-written noName i (omega (arith, state-length))
-
-pub in-written : (i : ℕ) → 10 ≤ i → i < 22 → getD names i noName ≡ getD writtenNames (i - 10) noName
-in-written i h k = past-state i h ∙ List·getD-append writtenNames from-port noName (i - 10) (omega (arith, written-length))
-
-pub in-port : (i : ℕ) → 22 ≤ i → i < 32 → getD names i noName ≡ getD portNames (i - 22) noName
-in-port i h k = past-written i h ∙ List·getD-append portNames from-value noName (i - 22) (omega (arith, port-length))
-
-pub in-value : (i : ℕ) → 32 ≤ i → i < 44 → getD names i noName ≡ getD valueNames (i - 32) noName
-in-value i h k = past-port i h ∙ List·getD-append valueNames otherNames noName (i - 32) (omega (arith, value-length))
-
-pub in-other : (i : ℕ) → 44 ≤ i → getD names i noName ≡ getD otherNames (i - 44) noName
-in-other i h =
-    let e : i - 32 - 12 ≡ i - 44 = omega arith in
-    past-port i (omega arith) ∙ behind-run valueNames otherNames (i - 32) 12 value-length (omega arith) ∙ ap (λ (k : ℕ). getD otherNames k noName) e
+-- the parameters
+pub value-at : (i : ℕ) → 32 ≤ i → i < 44 → Value (i - 31) ≡ getD names i noName .part
+unfolding counted names stateNames writtenNames portNames valueNames otherNames
+value-at i h k =
+    let e : i - 31 ≡ 1 + (i - 32) = omega arith in
+    ap Value e ∙ by-place Value 32 12 i refl h k
 
 -- of the first places none, so the last one
 abbrev Missed : ℕ → ℕ → Type 0

@@ -4,17 +4,16 @@ use Prim.Native.Nat.{ℕ, zero, suc, _+_, _-_, _≤_, _<_}
 use native.Mathlib.Omega.{arith}
 use native.Mathlib.Numerals.{add-one}
 use mathlib.Core.Path.{_≡_, refl, sym, ap, ap₂, _∙_}
-use mathlib.Core.Bool.{true, false, _&&_}
+use mathlib.Core.Bool.{true}
 use mathlib.Core.List.{List, [], _∷_, _++_}
-use lib.ListN.{length, take, drop, getD, replicate, drop-of-length-le}
-use lib.Seq.{sets, sets-eq, drop-cons, getD-append-add}
+use lib.ListN.{length, drop, getD, replicate, drop-of-length-le}
+use lib.Seq.{sets, sets-eq, drop-cons}
 use lib.Dec.{eqb}
 use borrow.Author.Tests.{eqb-true, eq-eqb}
 use Rattle.items.specs.Characters.{space}
 use Rattle.rows.proofs.Bool.{and-left, and-right, split, never}
-use Rattle.lab_names.specs.declared.Name.{Name}
 use Rattle.lab_names.specs.declared.Part.the-variants.{Unknown}
-use Rattle.lab_names.specs.Names.{padded, noName, stateNames, writtenNames, portNames, valueNames, otherNames, names, sameText, partIn}
+use Rattle.lab_names.specs.Names.{Name, padded, noName, stateNames, writtenNames, portNames, valueNames, otherNames, names, sameText, partIn}
 
 drop-replicate : (k n a : ℕ) → drop k (replicate n a) ≡ replicate (n - k) a
 drop-replicate zero n a = let e : n ≡ n - 0 = omega arith in ap (λ (k : ℕ). replicate k a) e
@@ -49,15 +48,15 @@ module _ (t : List ℕ) (ns : List Name) (i : ℕ) (h : i < length ns) where
   next = drop-cons ns i noName h ∙ ap (λ (k : ℕ). getD ns i noName ∷ drop k ns) (sym (add-one i))
 
   -- the name at the place is the text ..
-  pub part-here : t ≡ getD ns i noName .0 → partIn t (drop i ns) ≡ getD ns i noName .1
+  pub part-here : t ≡ getD ns i noName .text → partIn t (drop i ns) ≡ getD ns i noName .part
   unfolding partIn
   part-here e = rw (next, sym e, same-refl t)
 
   -- .. or the search goes on
-  pub part-past : (t ≡ getD ns i noName .0 → ⊥) → partIn t (drop i ns) ≡ partIn t (drop (i + 1) ns)
+  pub part-past : (t ≡ getD ns i noName .text → ⊥) → partIn t (drop i ns) ≡ partIn t (drop (i + 1) ns)
   unfolding partIn
   part-past n =
-      split (sameText t (getD ns i noName .0)) (λ e. absurd (n (same-is t (getD ns i noName .0) e))) (λ e. rw (next, e))
+      split (sameText t (getD ns i noName .text)) (λ e. absurd (n (same-is t (getD ns i noName .text) e))) (λ e. rw (next, e))
 
 -- past the end there is none
 pub part-end : (t : List ℕ) (ns : List Name) (i : ℕ) → length ns ≤ i → partIn t (drop i ns) ≡ Unknown
@@ -67,9 +66,3 @@ part-end t ns i h = rw (drop-of-length-le ns {i = i} h)
 pub names-length : length names ≡ 53
 unfolding names stateNames writtenNames portNames valueNames otherNames
 names-length = refl
-
--- a name at a place behind a run of names
-pub behind-run : (xs ys : List Name) (i n : ℕ) → length xs ≡ n → n ≤ i → getD (xs ++ ys) i noName ≡ getD ys (i - n) noName
-behind-run xs ys i n e h =
-    let k : i ≡ length xs + (i - n) = omega arith in
-    ap (λ (j : ℕ). getD (xs ++ ys) j noName) k ∙ getD-append-add xs ys (i - n) noName

@@ -11,12 +11,15 @@ use Rattle.items.specs.Characters.{space}
 use Rattle.blocks.specs.declared.Store.the-variants.{Priority, Ordinary}
 use Rattle.orders.specs.declared.Table.the-variants.{Five, Six, Seven}
 use Rattle.lab_sets.specs.declared.Field.the-variants.{Mode, Flags, Seconds, Milliseconds, Limit, Remaining, Poll}
-use Rattle.lab_sets.specs.declared.Cell.{Cell}
 use Rattle.lab_sets.specs.declared.Cell.the-variants.{Initialised, Field as field, Written, Error, Place, Oldest, Waiting, Gathered, Timeouts}
 use Rattle.lab_sets.specs.declared.Thing.the-variants.{Room, Store as store, Table as table}
 use Rattle.lab_names.specs.declared.Part.{Part}
 use Rattle.lab_names.specs.declared.Part.the-variants.{Unknown, Cell as cell, Value, Exchange, Address, Transfer, Thing as thing}
-use Rattle.lab_names.specs.declared.Name.{Name}
+
+-- a name with its line's letter, and what it stands for
+pub record Name : Type 0 where
+  pub text : List ℕ
+  pub part : Part
 
 -- the characters of a text
 abbrev pub characters : String → List ℕ
@@ -28,11 +31,11 @@ abbrev pub padded : List ℕ → List ℕ
 padded t = t ++ replicate (14 - length t) space
 
 abbrev pub named : String → Part → Name
-named s p = record { 0 = padded (characters s); 1 = p }
+named s p = record { text = padded (characters s); part = p }
 
 -- what stands past the table's end, where nothing reads
 abbrev pub noName : Name
-noName = record { 0 = []; 1 = Unknown }
+noName = record { text = []; part = Unknown }
 
 -- initialised and the fields of Initialise
 unfoldable pub stateNames : List Name
@@ -115,6 +118,11 @@ otherNames =
 unfoldable pub names : List Name
 names = stateNames ++ (writtenNames ++ (portNames ++ (valueNames ++ otherNames)))
 
+-- the texts of names, one behind the other
+unfoldable pub textsOf : List Name → List ℕ
+textsOf [] = []
+textsOf (n ∷ ns) = n .text ++ textsOf ns
+
 -- whether two texts are the same
 unfoldable pub sameText : List ℕ → List ℕ → Bool
 sameText [] [] = true
@@ -125,7 +133,7 @@ sameText (c ∷ cs) (d ∷ ds) = eqb c d && sameText cs ds
 -- the first name that a text is
 unfoldable pub partIn : List ℕ → List Name → Part
 partIn t [] = Unknown
-partIn t (n ∷ ns) = cond (sameText t (n .0)) (n .1) (partIn t ns)
+partIn t (n ∷ ns) = cond (sameText t (n .text)) (n .part) (partIn t ns)
 
 -- what the head of a line names
 unfoldable pub partNamed : List ℕ → Part

@@ -1,5 +1,7 @@
 // The names of the lines `X` and `L`, each behind its letter.
 mod names;
+mod parts;
+mod texts;
 
 use lab_sets::Cell;
 use lab_sets::Thing;
@@ -15,6 +17,3 @@ pub enum Part {
     Transfer,
     Thing(Thing),
 }
-
-// A name with its line's letter, and what it stands for.
-pub struct Name(pub [u8; 14], pub Part);

@@ -1,0 +1,20 @@
+-- `lab_names::parts::field_at` meets its contract. Assumes nothing.
+use Rattle.lab_names.specs.Names.{names, stateNames}
+use Rattle.lab_names.proofs.Runs.{last-is}
+use Rattle.lab_names.proofs.parts.field_at.Statement.{statement}
+use Rattle.lab_names.proofs.parts.field_at.Tie as tie
+
+pub field-at-spec : {M : Type 1} → statement M
+unfolding names stateNames
+field-at-spec =
+    tie.close
+    (tie.spec
+    (λ c. rw (c .match .keys1))
+    (λ c. rw (c .match .keys2))
+    (λ c. rw (c .match .keys3))
+    (λ c. rw (c .match .keys4))
+    (λ c. rw (c .match .keys5))
+    (λ c. rw (c .match .keys6))
+    (λ c. rw (c .match .keys7))
+    (λ c. rw (c .match .keys8))
+    (λ c. rw (last-is 8 (c .before .args .i) (c .match .rest) (c .before .pre))))
