@@ -3,7 +3,8 @@
 may hold a wrong line for each of several functions, or several wrong rules with a name each. So here each of these functions must
 have been refused by itself, each wrong rule at facts that no other rule of its edit has, and under each edit or wrong rule that
 docs/PROMISES.md names for a statement that statement's proof must have failed, by itself or because a law that it goes by failed;
-no edit may be one that is not well formed. Needs target/must-fail, as `rt ci` or `rt must-fail` leave it."""
+no edit may be one that is not well formed. Needs target/must-fail, as `rt ci` or `rt must-fail` leave it. With --facts it only
+prints, of each edit that was tried, the facts that failed of themselves."""
 import pathlib
 import re
 import sys
@@ -102,12 +103,16 @@ def formed():
             fail(f'{crate}/{edit.stem}: a definition of the edit can not be read')
 
 
+def by_themselves(log):
+    """The facts that failed, and not for want of another."""
+    return {name for name, why in re.findall(r'error: `([^`]*)`: (.*)', log) if 'was not admitted' not in why}
+
+
 def rules():
     """Each wrong rule is refused at facts of its own: they fail, and not for want of another."""
     count = 0
     for edit in sorted(ROOT.glob('crates/*/must-fail/*.edit')):
-        log = log_of(edit.parent.parent.name, edit.stem)
-        failed = {name for name, why in re.findall(r'error: `([^`]*)`: (.*)', log) if 'was not admitted' not in why}
+        failed = by_themselves(log_of(edit.parent.parent.name, edit.stem))
         taken = set()
         for label, names in RULE.findall(edit.read_text()):
             count += 1
@@ -167,6 +172,10 @@ def statements():
 
 
 def main():
+    if sys.argv[1:] == ['--facts']:
+        for log in sorted(ROOT.glob('target/must-fail/*/*/.log')):
+            print(f'{log.parent.parent.name}/{log.parent.name}: {", ".join(sorted(by_themselves(log.read_text())))}')
+        return 0
     formed()
     lines, open_to_all, wrong, said = functions(), publics(), rules(), statements()
     if failures:
