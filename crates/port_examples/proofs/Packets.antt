@@ -18,15 +18,15 @@ use Rattle.pipe.specs.Pipe.{freshPipe, soundPipe}
 use Rattle.rules.specs.Calls.{powerCall, packetHeard, meantBody, replyBytes, spokenBytes, answered, packetCall, putCall, wordCall, loneCall, samplesCall}
 use Rattle.rules.specs.Obey.{checksOf, initialisedPod, doneBy, obeyOf, matches, settled, acknowledgedOf, reportOf, dropFrom}
 use Rattle.rules.specs.State.{freshFields, freshPod, restful, soundPod}
-use Rattle.rules.specs.World.{step, tells, world, next, final}
+use Rattle.rules.specs.declared.Exchange.{Exchange}
+use Rattle.rules.specs.declared.Exchange.the-variants.{Closed}
+use Rattle.rules.specs.World.{lone, step, tells, world, next, final}
 use mathlib.Core.List.{[], _∷_}
-use Rattle.frames.specs.Fields.{placed, frame}
-use Rattle.frames.specs.Layout.{lines03, lines47, framesOf}
-use Rattle.frames.specs.Samples.{sampleAt, sumOf, averageOf, averagesOf, boundedOf}
-use Rattle.rules.specs.Families.{wordOf, wordLent, pipeOf, loneOf}
+use Rattle.frames.specs.Samples.{boundedOf}
+use Rattle.rules.specs.Families.{deadline, wordOf, wordLent, pipeOf, loneOf}
 use Rattle.examples.specs.Shown.{justInitialised, AsExpected}
 use Rattle.examples.specs.Computed.{dusty}
-use Rattle.port_examples.specs.Packets.{Talks, checks, keeps, unfit, update, updated, exchanges, Packets}
+use Rattle.port_examples.specs.Packets.{Talks, checks, keeps, unfit, update, updated, beside, openThen, exchanges, Packets}
 
 pub heard : Talks (world freshPod dusty) checks
 unfolding ran poly leaving bitIn bits bitsIn crcFrom crcOf withCrc answerOf errorAnswer numbersAt fieldsOf fieldsIn fieldsBounded findIn listedIn codeRow isCode commandPlace commandRow highFirst numberOf numberAt crcRight acknowledges packetRead isId inRows soundParams startParams storeSized soundRing placeBehind blockAt blocksFrom blocksIn oldestOf putRing putStore soundPlaces soundTransfer soundWords startWords closeOf listed startTable tablesSized emptyInput freshInput soundInput freshPipe soundPipe powerCall packetHeard meantBody replyBytes spokenBytes answered packetCall putCall checksOf initialisedPod doneBy obeyOf matches settled acknowledgedOf freshFields freshPod restful soundPod step tells
@@ -45,8 +45,13 @@ unfolding ran poly leaving bitIn bits bitsIn crcFrom crcOf withCrc answerOf erro
 stored = refl
 
 exchanged : AsExpected exchanges
-unfolding ran poly leaving bitIn bits bitsIn crcFrom crcOf withCrc answerOf errorAnswer fieldBytes bodyOf commandBytes laidOut numbersAt fieldsOf fieldsIn fieldsBounded findIn listedIn codeRow isCode commandPlace commandRow highFirst numberOf numberAt crcRight acknowledges packetRead isId inRows soundParams startParams storeSized soundRing soundPlaces soundTransfer soundWords startWords closeOf statusOf listed startTable tablesSized heldIn sentPacket sentBytes emptyInput freshInput gathers pipeByte countUp pipeTimeout soundInput gatheringOf freshPipe soundPipe placed frame lines03 lines47 framesOf sampleAt sumOf averageOf averagesOf boundedOf powerCall packetHeard meantBody replyBytes spokenBytes answered packetCall wordCall loneCall samplesCall wordOf wordLent pipeOf loneOf checksOf initialisedPod doneBy obeyOf justInitialised freshFields freshPod restful soundPod step final tells statusBody valueBody signedOf unsignedOf writeAllowed filter missingIds missingOf placeBehind blockAt blocksFrom blocksIn oldestOf putRing putStore droppedRing putCall matches dropFrom settled acknowledgedOf reportOf
+unfolding ran poly leaving bitIn bits bitsIn crcFrom crcOf withCrc answerOf errorAnswer fieldBytes bodyOf commandBytes laidOut numbersAt fieldsOf fieldsIn fieldsBounded findIn listedIn codeRow isCode commandPlace commandRow highFirst numberOf numberAt crcRight acknowledges packetRead inRows soundParams startParams storeSized soundRing soundPlaces soundTransfer soundWords startWords closeOf listed startTable tablesSized heldIn sentPacket sentBytes emptyInput freshInput gathers pipeByte countUp pipeTimeout soundInput gatheringOf freshPipe soundPipe powerCall packetHeard meantBody replyBytes spokenBytes answered packetCall loneCall pipeOf loneOf checksOf initialisedPod doneBy obeyOf justInitialised freshFields freshPod restful soundPod step final tells placeBehind blockAt blocksFrom blocksIn oldestOf putRing putStore droppedRing putCall matches dropFrom settled acknowledgedOf
 exchanged = refl
 
+-- whichever exchange is open
+opened : (x : Exchange) → (openThen (lone deadline ∷ []) x ≡ Closed) × (openThen beside x ≡ x)
+unfolding ran crcFrom packetRead fieldsBounded inRows soundParams startParams storeSized soundRing soundPlaces soundTransfer soundWords startWords statusOf listed startTable tablesSized heldIn sentPacket sentBytes emptyInput freshInput gathers pipeByte countUp pipeTimeout soundInput freshPipe soundPipe boundedOf packetHeard spokenBytes answered packetCall wordCall loneCall samplesCall wordOf wordLent pipeOf loneOf initialisedPod freshPod restful soundPod step final putRing putStore placeBehind putCall
+opened x = (refl, refl)
+
 pub all-packets : Packets
-all-packets = record { asleep = heard; parameters = written; updates = taken; fields = stored; exchanges = exchanged }
+all-packets = record { asleep = heard; parameters = written; updates = taken; fields = stored; exchanges = exchanged; closes = λ x. opened x .0; stays = λ x. opened x .1 }

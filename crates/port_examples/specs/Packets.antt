@@ -8,10 +8,10 @@ use Rattle.rows.specs.Rows.{gave}
 use Rattle.blocks.specs.declared.Store.the-variants.{Priority, Ordinary}
 use Rattle.packets.specs.declared.Fields.{Fields}
 use Rattle.rules.specs.declared.Exchange.{Exchange}
-use Rattle.rules.specs.declared.Exchange.the-variants.{Closed, Status, Read, Receive}
+use Rattle.rules.specs.declared.Exchange.the-variants.{Closed}
 use Rattle.rules.specs.declared.Pod.{Pod}
 use Rattle.rules.specs.State.{withExchange, withRing, freshPod}
-use Rattle.rules.specs.Obey.{initialisedPod, exchangeCode}
+use Rattle.rules.specs.Obey.{initialisedPod}
 use Rattle.rules.specs.Refusals.{done}
 use Rattle.rules.specs.Families.{status, byte, timeout, deadline, pipe}
 use Rattle.rules.specs.World.{World, world, Call, power, packet, put, word, lone, samples, told, next, final, tells}
@@ -137,22 +137,17 @@ abbrev pub beside : List Call
 beside =
     lone (pipe (byte 9)) ∷ lone (pipe timeout) ∷ word status ∷ samples 0 (replicate 128 0) ∷ put Priority (replicate 256 7) ∷ packet [] (replicate 260 0) ∷ []
 
--- a pod with a block waiting in each store, and what some calls leave of each exchange that can be open in it, and of none
+-- a pod with a block waiting in each store, and what is open in it after some calls
 abbrev pub holding : Pod
 holding = withRing Priority (record { oldest = 0; waiting = 1 }) (withRing Ordinary (record { oldest = 0; waiting = 1 }) (initialisedPod updated))
 
-abbrev pub openThen : List Call → List ℕ
-openThen cs =
-    map (λ (x : Exchange). exchangeCode (final (world (withExchange x holding) blank) cs .pod .exchange))
-    (Closed ∷ Status ∷ Read ∷ Receive Priority ∷ Receive Ordinary ∷ [])
+abbrev pub openThen : List Call → Exchange → Exchange
+openThen cs x = final (world (withExchange x holding) blank) cs .pod .exchange
 
--- "closes an open exchange .. So does the deadline call", and none of those; "its remaining falls by 1", and no other field changes; an
--- Update keeps gathered bytes
+-- "its remaining falls by 1", and no other field changes; an Update keeps gathered bytes
 abbrev pub exchanges : List ComputedLine
 exchanges =
-    line (openThen (lone deadline ∷ [])) (replicate 5 0)
-    ∷ line (openThen beside) (0 ∷ 0x91 ∷ 0x94 ∷ 0x95 ∷ 0x96 ∷ [])
-    ∷ line (fieldsListed (final justInitialised fetched .pod .fields)) (2 ∷ 0xABCD ∷ 7 ∷ 999 ∷ 3 ∷ 0 ∷ 5 ∷ 3 ∷ 60000 ∷ [])
+    line (fieldsListed (final justInitialised fetched .pod .fields)) (2 ∷ 0xABCD ∷ 7 ∷ 999 ∷ 3 ∷ 0 ∷ 5 ∷ 3 ∷ 60000 ∷ [])
     ∷ line (sentAfter (bytesIn (1 ∷ 2 ∷ []) ++ (update .call ∷ [])) timeout) (1 ∷ 2 ∷ [])
     ∷ []
 
@@ -162,3 +157,6 @@ pub record Packets : Type 0 where
   pub updates : Talks justInitialised (unfit ∷ update ∷ [])
   pub fields : next justInitialised (update .call) .pod .fields ≡ updated
   pub exchanges : AsExpected exchanges
+  -- "closes an open exchange .. So does the deadline call", whichever is open, and none of those
+  pub closes : (x : Exchange) → openThen (lone deadline ∷ []) x ≡ Closed
+  pub stays : (x : Exchange) → openThen beside x ≡ x
