@@ -27,14 +27,14 @@ use Rattle.rules.specs.State.{Lent, freshFields, freshPod, restful, soundPod}
 use Rattle.rules.specs.World.{step, tells, final}
 use Rattle.rules.specs.Families.{loneOf}
 use Rattle.examples.specs.Shown.{justInitialised}
-use Rattle.port_examples.specs.Packets.{Talks}
-use Rattle.port_examples.specs.Acknowledgements.{acknowledged90, Sending, AllKeep, Acknowledgements}
+use Rattle.port_examples.specs.Packets.{Talks, Stock}
+use Rattle.port_examples.specs.Acknowledgements.{acknowledged90, AllKeep, Acknowledgements}
 
 talked : Talks justInitialised acknowledged90
 unfolding ran poly leaving bitIn bits bitsIn crcFrom crcOf withCrc answerOf errorAnswer fieldBytes bodyOf commandBytes laidOut numbersAt fieldsOf fieldsIn fieldsBounded findIn listedIn codeRow isCode commandPlace commandRow highFirst numberOf numberAt crcRight acknowledges packetRead isId inRows soundParams startParams storeSized soundRing soundPlaces soundTransfer soundWords startWords closeOf listed startTable tablesSized sentPacket sentBytes emptyInput freshInput soundInput freshPipe soundPipe packetHeard meantBody replyBytes spokenBytes answered packetCall loneCall loneOf checksOf initialisedPod doneBy obeyOf justInitialised freshFields freshPod restful soundPod step tells statusBody filter missingIds missingOf placeBehind blockAt blocksFrom blocksIn oldestOf putRing putStore droppedRing putCall matches dropFrom settled acknowledgedOf reportOf final powerCall
 talked = refl
 
-others-kept : (one : Bool) (l : Lent) (g : Sending) → AllKeep Closed one l g × AllKeep Status one l g × AllKeep Read one l g
+others-kept : (one : Bool) (l : Lent) (g : Stock) → AllKeep Closed one l g × AllKeep Status one l g × AllKeep Read one l g
 unfolding packetHeard acknowledgedOf matches settled commandRow commandPlace
 others-kept true l g = (refl, refl, refl)
 others-kept false l g = (refl, refl, refl)

@@ -1,6 +1,6 @@
 -- Acknowledgements, by computation. Request No. 2: "From now 0x90 closes any open exchange as that exchange's own code would."
 -- Assumes nothing.
-use Prim.Native.Nat.{ℕ, suc}
+use Prim.Native.Nat.{ℕ}
 use mathlib.Core.Path.{_≡_}
 use mathlib.Core.Bool.{Bool, true, false}
 use mathlib.Core.List.{List, [], _∷_, _++_, map}
@@ -12,14 +12,14 @@ use Rattle.packets.specs.declared.Parsed.the-variants.{Acknowledgement}
 use Rattle.rules.specs.declared.Exchange.{Exchange}
 use Rattle.rules.specs.declared.Exchange.the-variants.{Closed, Status, Read, Receive}
 use Rattle.rules.specs.declared.Pod.{Pod}
-use Rattle.rules.specs.State.{Lent, withExchange, withRing, withFields, withRemaining}
+use Rattle.rules.specs.State.{Lent, withRing, withFields, withRemaining}
 use Rattle.rules.specs.Calls.{silent, packetHeard}
 use Rattle.rules.specs.Refusals.{done}
 use Rattle.rules.specs.Families.{deadline}
 use Rattle.rules.specs.World.{lone, told}
 use Rattle.examples.specs.Shown.{justInitialised}
 use Rattle.examples.specs.Computed.{TalkTurn, asks, brings}
-use Rattle.port_examples.specs.Packets.{Talks, fails, update}
+use Rattle.port_examples.specs.Packets.{Talks, fails, update, Stock, stocked}
 
 -- ---- as the aircraft sees it
 
@@ -86,41 +86,27 @@ acknowledged90 =
 abbrev pub firsts : List ℕ
 firsts = 0x90 ∷ 0x91 ∷ 0x92 ∷ 0x93 ∷ 0x94 ∷ 0x95 ∷ 0x96 ∷ 0x97 ∷ 0x98 ∷ 0x99 ∷ 0x9A ∷ 0x9B ∷ 0x9C ∷ 0x9D ∷ 0x9E ∷ 0x9F ∷ []
 
--- any pod in which an exchange is open: one block and so many more wait in each store, the oldest at its end; one and so many more may
--- still be sent
-pub record Sending : Type 0 where
-  pub pod : Pod
-  pub waiting : ℕ
-  pub remaining : ℕ
-
-abbrev pub sending : Exchange → Sending → Pod
-sending x g =
-    withExchange x
-    (withRing Priority (record { oldest = 15; waiting = suc (g .waiting) })
-    (withRing Ordinary (record { oldest = 127; waiting = suc (g .waiting) })
-    (withFields (withRemaining Priority (suc (g .remaining)) (withRemaining Ordinary (suc (g .remaining)) (g .pod .fields))) (g .pod))))
-
 -- the exchange is closed, and nothing else changes ..
-abbrev pub kept : Sending → Pod
-kept g = sending Closed g
+abbrev pub kept : Stock → Pod
+kept g = stocked Closed g
 
 -- .. or the oldest block of a store is dropped, and its remaining falls by 1
-abbrev pub gone : Store → Sending → Pod
+abbrev pub gone : Store → Stock → Pod
 gone s g = withRing s (record { oldest = 0; waiting = g .waiting }) (withFields (withRemaining s (g .remaining) (kept g .fields)) (kept g))
 
 -- an acknowledgement gets no answer, touches nothing that is lent, and leaves these, first byte by first byte
-abbrev pub Leaves : Exchange → Bool → Lent → Sending → List Pod → Type 0
-Leaves x one l g ps = map (λ (first : ℕ). packetHeard (Acknowledgement first one) l (sending x g)) firsts ≡ map (λ (p : Pod). out silent p l) ps
+abbrev pub Leaves : Exchange → Bool → Lent → Stock → List Pod → Type 0
+Leaves x one l g ps = map (λ (first : ℕ). packetHeard (Acknowledgement first one) l (stocked x g)) firsts ≡ map (λ (p : Pod). out silent p l) ps
 
 -- all of them keep the blocks
-abbrev pub AllKeep : Exchange → Bool → Lent → Sending → Type 0
+abbrev pub AllKeep : Exchange → Bool → Lent → Stock → Type 0
 AllKeep x one l g = Leaves x one l g (replicate 16 (kept g))
 
 pub record Acknowledgements : Type 0 where
   pub talk : Talks justInitialised acknowledged90
   -- of either form, where no block was sent
-  pub others : (one : Bool) (l : Lent) (g : Sending) → AllKeep Closed one l g × AllKeep Status one l g × AllKeep Read one l g
+  pub others : (one : Bool) (l : Lent) (g : Stock) → AllKeep Closed one l g × AllKeep Status one l g × AllKeep Read one l g
   -- of the 09 form; of the 01 form only 0x90 and 0x95, and 0x90 and 0x96, drop one
-  pub failed : (s : Store) (l : Lent) (g : Sending) → AllKeep (Receive s) false l g
-  pub priority : (l : Lent) (g : Sending) → Leaves (Receive Priority) true l g (gone Priority g ∷ replicate 4 (kept g) ++ (gone Priority g ∷ replicate 10 (kept g)))
-  pub ordinary : (l : Lent) (g : Sending) → Leaves (Receive Ordinary) true l g (gone Ordinary g ∷ replicate 5 (kept g) ++ (gone Ordinary g ∷ replicate 9 (kept g)))
+  pub failed : (s : Store) (l : Lent) (g : Stock) → AllKeep (Receive s) false l g
+  pub priority : (l : Lent) (g : Stock) → Leaves (Receive Priority) true l g (gone Priority g ∷ replicate 4 (kept g) ++ (gone Priority g ∷ replicate 10 (kept g)))
+  pub ordinary : (l : Lent) (g : Stock) → Leaves (Receive Ordinary) true l g (gone Ordinary g ∷ replicate 5 (kept g) ++ (gone Ordinary g ∷ replicate 9 (kept g)))

@@ -1,6 +1,6 @@
 -- Checks 2 to 9 and the acknowledgement form, packet by packet, by computation: each with its whole answer.
 -- Assumes nothing.
-use Prim.Native.Nat.{ℕ}
+use Prim.Native.Nat.{ℕ, suc}
 use mathlib.Core.Path.{_≡_}
 use mathlib.Core.List.{List, [], _∷_, _++_, map}
 use lib.ListN.{replicate}
@@ -10,7 +10,7 @@ use Rattle.packets.specs.declared.Fields.{Fields}
 use Rattle.rules.specs.declared.Exchange.{Exchange}
 use Rattle.rules.specs.declared.Exchange.the-variants.{Closed}
 use Rattle.rules.specs.declared.Pod.{Pod}
-use Rattle.rules.specs.State.{withExchange, withRing, freshPod}
+use Rattle.rules.specs.State.{withExchange, withRing, withFields, withRemaining, freshPod}
 use Rattle.rules.specs.Obey.{initialisedPod}
 use Rattle.rules.specs.Refusals.{done}
 use Rattle.rules.specs.Families.{status, byte, timeout, deadline, pipe}
@@ -137,12 +137,23 @@ abbrev pub beside : List Call
 beside =
     lone (pipe (byte 9)) ∷ lone (pipe timeout) ∷ word status ∷ samples 0 (replicate 128 0) ∷ put Priority (replicate 256 7) ∷ packet [] (replicate 260 0) ∷ []
 
--- a pod with a block waiting in each store, and what is open in it after some calls
-abbrev pub holding : Pod
-holding = withRing Priority (record { oldest = 0; waiting = 1 }) (withRing Ordinary (record { oldest = 0; waiting = 1 }) (initialisedPod updated))
+-- a pod: one block and so many more wait in each store, the oldest at its end; one and so many more may still be sent
+pub record Stock : Type 0 where
+  pub pod : Pod
+  pub waiting : ℕ
+  pub remaining : ℕ
 
+-- .. with an exchange open
+abbrev pub stocked : Exchange → Stock → Pod
+stocked x g =
+    withExchange x
+    (withRing Priority (record { oldest = 15; waiting = suc (g .waiting) })
+    (withRing Ordinary (record { oldest = 127; waiting = suc (g .waiting) })
+    (withFields (withRemaining Priority (suc (g .remaining)) (withRemaining Ordinary (suc (g .remaining)) (g .pod .fields))) (g .pod))))
+
+-- what is open after some calls, one block waiting in each store
 abbrev pub openThen : List Call → Exchange → Exchange
-openThen cs x = final (world (withExchange x holding) blank) cs .pod .exchange
+openThen cs x = final (world (stocked x (record { pod = initialisedPod updated; waiting = 0; remaining = 0 })) blank) cs .pod .exchange
 
 -- "its remaining falls by 1", and no other field changes; an Update keeps gathered bytes
 abbrev pub exchanges : List ComputedLine
