@@ -9,6 +9,7 @@ use borrow.Author.Needs.{needs}
 use lib.ListN.{getD}
 use Rattle.pipe.specs.declared.Pipe.{Pipe}
 use Rattle.pipe.specs.Input.{gatheringOf}
+use Rattle.pipe.specs.Output.{busyOf}
 use Rattle.frames.specs.Samples.{averageOf, averagesOf, boundedOf}
 use Rattle.frames.specs.Fields.{placed, frame}
 use Rattle.frames.proofs.Shape.{channelAt, disjoint, tiles, Each, ReadBack}
@@ -32,10 +33,11 @@ module _ (a : List ℕ) (p : Pipe) (on : Bool) (check : ℕ) where
   tiles-03 = refl
 
   -- each field of AN03 can be read back from the frame
-  pub read-back-03 : p .input .timeouts ≤ 15 → check ≤ 31 → Each (ReadBack (frame (lines03 a p on check))) (lines03 a p on check)
+  pub read-back-03 : p .input .timeouts ≤ 15 → p .output .timeouts ≤ 15 → check ≤ 31 → Each (ReadBack (frame (lines03 a p on check))) (lines03 a p on check)
   unfolding lines03 frame placed
-  read-back-03 t c =
+  read-back-03 t o c =
       let gathering = flag-fits (gatheringOf (p .input)) in
+      let busy = flag-fits (busyOf (p .output)) in
       let awake = flag-fits on in
       search needs
 

@@ -1,22 +1,23 @@
--- The two status frames by the byte-pipe layout of document 000, Appendix C, with document 01's values.
+-- The two status frames by the byte-pipe layout of document 000, Appendix C, with document 01's values and request No. 3's.
 use Prim.Native.Nat.{ℕ}
 use mathlib.Core.Bool.{Bool, false}
 use mathlib.Core.List.{List, [], _∷_}
 use lib.ListN.{getD}
 use Rattle.pipe.specs.declared.Pipe.{Pipe}
 use Rattle.pipe.specs.Input.{gatheringOf}
+use Rattle.pipe.specs.Output.{busyOf}
 use Rattle.frames.specs.declared.Frames.{Frames}
 use Rattle.frames.specs.Samples.{averagesOf}
 use Rattle.frames.specs.Fields.{Field, fieldBits, fieldBit, bitsOf, frame}
 
--- 0x24MM Module Status AN03 in byte-pipe mode, each line of the guide with what document 01 puts there: of the eight averages,
+-- 0x24MM Module Status AN03 in byte-pipe mode, each line of the guide with what stands there: of the eight averages,
 -- the pipe, initialised or not, and the self-check number
 unfoldable pub lines03 : List ℕ → Pipe → Bool → ℕ → List Field
 lines03 averages pipe initialised selfcheck =
     -- 0.7-4 count of IN-side timeouts: "input timeouts in 0.7-4"
     fieldBits 0 7 4 (pipe .input .timeouts)
-    -- 0.3-0 count of OUT-side timeouts
-    ∷ fieldBits 0 3 0 0
+    -- 0.3-0 count of OUT-side timeouts: "AN03 then carries the count in 0.3-0"
+    ∷ fieldBits 0 3 0 (pipe .output .timeouts)
     -- 1.7-4 count of TxBfrFull events
     ∷ fieldBits 1 7 4 0
     -- 1.3-0 count of pipe-writes received with power off
@@ -35,8 +36,8 @@ lines03 averages pipe initialised selfcheck =
     ∷ fieldBits 3 1 0 (bitsOf (getD averages 1 0) 9 8)
     -- 4.7-0 analog channel 2 bits 7..0
     ∷ fieldBits 4 7 0 (bitsOf (getD averages 2 0) 7 0)
-    -- 5.7 pipe-OUT busy
-    ∷ fieldBit 5 7 false
+    -- 5.7 pipe-OUT busy: "and output busy in 5.7"
+    ∷ fieldBit 5 7 (busyOf (pipe .output))
     -- 5.6 pipe-OUT in error recovery
     ∷ fieldBit 5 6 false
     -- 5.5 reset requested while the pipe is busy

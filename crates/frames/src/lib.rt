@@ -97,16 +97,16 @@ fn bit_of(f: bool) -> u8
 
 // The frame AN03 of eight averages, the pipe, initialised or not, and the self-check number.
 fn three(a: [u16; 8], pipe: Pipe, initialised: bool, selfcheck: u8) -> [u8; 8]
-    requires { ⌜ (pipe .input .timeouts ≤ 15) × (selfcheck ≤ 31) ⌝ }
+    requires { ⌜ (pipe .input .timeouts ≤ 15) × (pipe .output .timeouts ≤ 15) × (selfcheck ≤ 31) ⌝ }
     ensures { λ r. ⌜ r ≡ frame (lines03 a pipe initialised selfcheck) ⌝ }
 {
     [
-        pipe.input.timeouts * 16,
+        pipe.input.timeouts * 16 + pipe.output.timeouts,
         0,
         low(a[1]),
         bit_of(pipe.input.gathering()) * 128 + high(a[1]),
         low(a[2]),
-        bit_of(initialised) * 4 + high(a[2]),
+        bit_of(pipe.output.busy()) * 128 + bit_of(initialised) * 4 + high(a[2]),
         low(a[3]),
         selfcheck * 4 + high(a[3]),
     ]
@@ -130,7 +130,7 @@ fn fortyseven(a: [u16; 8]) -> [u8; 8]
 
 // The two frames that show the samples, the pipe, initialised or not, and the self-check number.
 pub fn two_frames(samples: &[u16], pipe: Pipe, initialised: bool, selfcheck: u8) -> Frames
-    requires { ⌜ (length (now samples) ≡ 128) × (boundedOf (now samples) ≡ true) × (pipe .input .timeouts ≤ 15) × (selfcheck ≤ 31) ⌝ }
+    requires { ⌜ (length (now samples) ≡ 128) × (boundedOf (now samples) ≡ true) × (pipe .input .timeouts ≤ 15) × (pipe .output .timeouts ≤ 15) × (selfcheck ≤ 31) ⌝ }
     ensures { λ r. ⌜ r ≡ framesOf 16 (now (samples .entry)) pipe initialised selfcheck ⌝ }
 {
     let a = averages(samples);

@@ -1,4 +1,5 @@
 pub mod Zeros
 pub mod Cases
 pub mod Held
+pub mod Hand
 pub mod Laws

@@ -1,4 +1,4 @@
--- Demand 1: every call is answered, or refused by the first of its rows that holds, which is the lowest, with all as it came; and what
+-- Demand 1: every call is answered, or refused by the first of its rows that holds, which in document 01 is the lowest, with all as it came; and what
 -- an answered call gives.
 -- Assumes nothing.
 use Prim.Native.Nat.{ℕ}
@@ -16,9 +16,9 @@ use Rattle.rules.specs.Calls.{reachOf}
 use Rattle.rules.specs.World.{World, Call, power, packet, put, word, lone, samples, roomOf, Told, Stepped, stepped, isAnswered, isRefused, step, rowsOf}
 use Rattle.rules.specs.Demands.{AlwaysAnswered, LowestFirst, RefusedUnchanged}
 use Rattle.rules.specs.History.{loneAs}
-use Rattle.rules.specs.Numbered.{isPipe}
+use Rattle.rules.specs.Numbered.{rowsRise}
 use Rattle.rules.specs.Said.{givesNumber, givesBytes, SaysDone}
-use Rattle.rules.proofs.Lone.{lone-rows, rise-if, lone-is, unsent}
+use Rattle.rules.proofs.Lone.{lone-rise, lone-is, unsent}
 use Rattle.rules.proofs.Happens.{Happens, by-rows, by-power, by-empty, by-damage, by-acknowledgement, by-check, by-command, by-put, by-word, by-lone, by-samples, happens}
 use Rattle.rules.proofs.WordRows.{rowed}
 
@@ -71,20 +71,20 @@ refused-unchanged w c n s = on (ends (happens w c))
     on (stopped m f e) = rw (← refused-same (sym (says e) ∙ s)) e
     on (answered g k e) = absurd (gave-not (sym e ∙ s))
 
-rows-rise : (w : World) (c : Call) → rising 0 (rowsOf w c) ≡ true
+rows-rise : (w : World) (c : Call) → rowsRise c ≡ true → rising 0 (rowsOf w c) ≡ true
 unfolding rising rowsOf
-rows-rise w power = refl
-rows-rise w (packet b room) = refl
-rows-rise w (put s b) = refl
-rows-rise w (word c) =
+rows-rise w power up = refl
+rows-rise w (packet b room) up = refl
+rows-rise w (put s b) up = refl
+rows-rise w (word c) up =
     rw (rowed c .rows (w .lent .tables)) (by-test (λ (rs : List Row). rising 0 (rs ++ (stateRow (w .pod) ∷ [])) ≡ true) (traits c .lent) (λ e. refl) (λ e. refl))
-rows-rise w (lone c) = rw (lone-rows c (w .pod)) (rise-if (isPipe c) (w .pod))
-rows-rise w (samples k xs) = refl
+rows-rise w (lone c) up = lone-rise c (w .pod) up
+rows-rise w (samples k xs) up = refl
 
 -- "Lowest number first"
 pub lowest-first : LowestFirst
-lowest-first w c n =
-    let low = lowest (rowsOf w c) (rows-rise w c) n in
+lowest-first w c n up =
+    let low = lowest (rowsOf w c) (rows-rise w c up) n in
     let first = always-answered w c n in
     (λ s. low .0 (first .0 s), λ h. first .1 (low .1 h))
 

@@ -1,4 +1,4 @@
--- The pipe by its calls' inputs: no byte is lost, made or moved, whatever one pipe call is.
+-- The input half by its calls' inputs: no byte is lost, made or moved, whatever one pipe call is.
 -- Assumes nothing.
 use Prim.Native.Nat.{ℕ}
 use native.Mathlib.Omega.{arith}
@@ -15,10 +15,10 @@ use Rattle.pipe.proofs.Cases.{byte-cases, timeout-cases}
 use Rattle.pipe.proofs.Held.{Whole, length-held, held-gathers, held-empty, listed, whole-empty, whole-gathers}
 use Rattle.rules.specs.State.{Lent, freshPod}
 use Rattle.rules.specs.Obey.{initialisedPod, doneBy}
-use Rattle.rules.specs.Families.{PipeCall, byte, timeout, pipeOf}
+use Rattle.rules.specs.Families.{PipeCall, byte, timeout, packetOut, taken, pipeOf}
 use Rattle.rules.specs.World.{Call, final, powered}
-use Rattle.rules.specs.History.{Flow, noFlow, flowAfter, flowMoved, flowBy, sentBy, events, fold}
-use Rattle.rules.specs.Demands.{Flows, PipeIsHistory}
+use Rattle.rules.specs.History.{events, fold}
+use Rattle.rules.specs.Halves.{toAircraft, gaveIf, Flow, noFlow, flowAfter, flowMoved, flowBy, sentBy, Flows, PipeIsHistory}
 use Rattle.rules.proofs.Lone.{movedBy}
 use Rattle.rules.proofs.Eventful.{quiet, anew, initialised, slept, updated, wrote, began, closed, acknowledged, shelved, spoken, touched}
 use Rattle.rules.proofs.Histories.{Keeps, history, both, fold-both, powered-fresh}
@@ -88,15 +88,16 @@ module _ (i : Input) (s : List ℕ) (f : Flow) (x : Flowing i s f) where
 
 -- each pipe call, by what it puts in and what it sent
 pub pipe-flows : (c : PipeCall) (p : Pipe) (s : List ℕ) (f : Flow) → Flowing (p .input) s f
-    → Flowing (pipeOf c p .pod .input) (s ++ sentBytes (pipeOf c p .lent)) (flowAfter c f)
-unfolding pipeOf
+    → Flowing (pipeOf c p .pod .input) (s ++ gaveIf toAircraft (some c) (sentBytes (pipeOf c p .lent))) (flowAfter c f)
+unfolding pipeOf flowAfter
 pipe-flows (byte b) p s f x = byte-flows (p .input) s f x b
 pipe-flows timeout p s f x = timeout-flows (p .input) s f x
+pipe-flows (packetOut b) p s f x = rw (append-nil s) x
+pipe-flows taken p s f x = rw (append-nil s) x
 
 -- or none
 moved-flows : (m : Option PipeCall) (p : Pipe) (s : List ℕ) (f : Flow) → Flowing (p .input) s f
-    → Flowing (movedBy m p .pod .input) (s ++ sentBytes (movedBy m p .lent)) (flowMoved m f)
-unfolding sentBytes sentPacket
+    → Flowing (movedBy m p .pod .input) (s ++ gaveIf toAircraft m (sentBytes (movedBy m p .lent))) (flowMoved m f)
 moved-flows none p s f x = rw (append-nil s) x
 moved-flows (some c) p s f x = pipe-flows c p s f x
 
@@ -115,7 +116,7 @@ flow-kept w _ _ closed a x = x
 flow-kept w _ _ (acknowledged first one e) a x = rw (acknowledged-untouched first one (w .pod) .pipe) x
 flow-kept w _ _ (shelved s b k) a x = x
 flow-kept w _ _ (spoken c k) a x = x
-flow-kept w _ _ (touched t) a x = moved-flows (t .moves) (w .pod .pipe) (a .0) (a .1) x
+flow-kept w _ _ (touched t k) a x = moved-flows (t .moves) (w .pod .pipe) (a .0) (a .1) x
 
 pub flowing-is : (l : Lent) (cs : List Call)
     → Flowing (final (powered l) cs .pod .pipe .input) (fold sentBy [] (events (powered l) cs)) (fold flowBy noFlow (events (powered l) cs))

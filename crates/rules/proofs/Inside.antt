@@ -158,7 +158,7 @@ module _ {p : Pod} (h : PodIn p) where
 -- as from power: initialised or not, with any fields within their bounds and any given address
 pub anew-in : (b : Bool) (f : Fields) (g : Given) → fieldsBounded f ≡ true
     → PodIn (withWords (withGiven g (freshPod .words)) (withFields f (withInitialised b freshPod)))
-unfolding freshPod restful startWords freshPipe soundPipe soundWords
+unfolding freshPod restful startWords soundWords
 anew-in b f g k =
     record { priority = empty-sound 16 (omega arith); ordinary = empty-sound 128 (omega arith); params = params-start; fields = k; pipe = fresh-sound; words = words-start; rest = or-true b }
 

@@ -6,6 +6,7 @@ pub mod Eventful
 pub mod Histories
 pub mod Untouched
 pub mod Flow
+pub mod Handed
 pub mod Frames
 pub mod Heard
 pub mod NoOther

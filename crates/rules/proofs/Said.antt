@@ -3,11 +3,13 @@
 -- Assumes nothing.
 use Prim.Native.Nat.{ℕ}
 use mathlib.Core.Path.{_≡_, refl, sym, ap, _∙_}
+use mathlib.Core.Bool.{cond}
 use mathlib.Core.List.{[], _∷_}
+use lib.Dec.{eqb}
 use lib.ListN.{getD}
 use Rattle.rows.specs.Rows.{Said, refused, gave, Out, out}
 use Rattle.rules.specs.declared.Refusal.{Refusal}
-use Rattle.rules.specs.declared.Refusal.the-variants.{Room, Size, State, Count, Over, Asleep, Full}
+use Rattle.rules.specs.declared.Refusal.the-variants.{Room, Size, State, Count, Over, Asleep, Full, Busy, Eight}
 use Rattle.rules.specs.declared.Answer.{Answer}
 use Rattle.rules.specs.declared.Answer.the-variants.{Refused, Done, Length, Word}
 use Rattle.rules.specs.declared.Reply.{Reply}
@@ -22,7 +24,7 @@ once f g back a b h = sym (back a) ∙ ap g h ∙ back b
 -- ---- a refusal, by its number
 
 refusalOf : ℕ → Refusal
-refusalOf n = getD (Full ∷ Room ∷ Size ∷ State ∷ Count ∷ Over ∷ Asleep ∷ []) n Full
+refusalOf n = cond (eqb n 21) Busy (cond (eqb n 22) Eight (getD (Full ∷ Room ∷ Size ∷ State ∷ Count ∷ Over ∷ Asleep ∷ []) n Full))
 
 refusal-back : (r : Refusal) → refusalOf (refusalNumber r) ≡ r
 unfolding refusalOf refusalNumber
@@ -33,6 +35,8 @@ refusal-back Count = refl
 refusal-back Over = refl
 refusal-back Asleep = refl
 refusal-back Full = refl
+refusal-back Busy = refl
+refusal-back Eight = refl
 
 pub refusal-number-one : (r s : Refusal) → refusalNumber r ≡ refusalNumber s → r ≡ s
 refusal-number-one = once refusalNumber refusalOf refusal-back

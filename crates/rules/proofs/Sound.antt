@@ -8,7 +8,7 @@ use mathlib.Core.Option.{Option, none as unmoved, some}
 use lib.Dec.{eqb}
 use lib.IntN.{ℤ}
 use Rattle.rows.specs.Rows.{Out, Clear, none, past}
-use Rattle.rows.proofs.Bool.{by-test, not-false}
+use Rattle.rows.proofs.Bool.{by-test, and-left, and-right, and-both, not-false}
 use Rattle.blocks.specs.declared.Store.{Store}
 use Rattle.blocks.specs.declared.Store.the-variants.{Priority, Ordinary}
 use Rattle.blocks.specs.Stores.{capacityOf}
@@ -27,15 +27,17 @@ use Rattle.tables.specs.Bounds.{soundWords}
 use Rattle.tables.proofs.Kept.{close-sound}
 use Rattle.tables.proofs.Closing.{close-idle}
 use Rattle.pipe.specs.declared.Pipe.{Pipe}
+use Rattle.pipe.specs.Input.{soundInput}
+use Rattle.pipe.specs.Output.{soundOutput}
 use Rattle.pipe.specs.Pipe.{soundPipe}
-use Rattle.pipe.proofs.Laws.{byte-sound, timeout-sound}
+use Rattle.pipe.proofs.Laws.{byte-sound, timeout-sound, packet-sound, taken-sound, out-timeout-sound}
 use Rattle.rules.specs.declared.Exchange.{Exchange}
 use Rattle.rules.specs.declared.Exchange.the-variants.{Closed, Status, Read, Receive}
 use Rattle.rules.specs.declared.Pod.{Pod}
 use Rattle.rules.specs.State.{Lent, deskIn, withExchange, withWords, withRemaining, ringOf, remainingOf, freshPod, soundPod}
 use Rattle.rules.specs.Obey.{shut, checksOf, doneBy, initialisedPod, matches, dropFrom, settled, acknowledgedOf}
 use Rattle.rules.specs.Refusals.{Giving}
-use Rattle.rules.specs.Families.{WordCall, wordOf, PipeCall, byte, timeout, pipeOf}
+use Rattle.rules.specs.Families.{WordCall, wordOf, PipeCall, byte, timeout, packetOut, taken, pipeOf}
 use Rattle.rules.specs.Calls.{reachOf, reached, answered, packetHeard, spokenBytes, replyBytes}
 use Rattle.rules.specs.World.{World, world, Call, power, Stepped, next, powered}
 use Rattle.rules.specs.History.{Touch, loneAs}
@@ -107,8 +109,13 @@ word-in c d {p} h =
 -- a pipe call
 pub pipe-sound : (c : PipeCall) (i : Pipe) → soundPipe i ≡ true → soundPipe (pipeOf c i .pod) ≡ true
 unfolding pipeOf soundPipe
-pipe-sound (byte b) i h = byte-sound (i .input) b h
-pipe-sound timeout i h = timeout-sound (i .input) h
+pipe-sound c i h = on c (and-left (soundInput (i .input)) (soundOutput (i .output)) h) (and-right (soundInput (i .input)) (soundOutput (i .output)) h)
+  where
+    on : (c : PipeCall) → soundInput (i .input) ≡ true → soundOutput (i .output) ≡ true → soundPipe (pipeOf c i .pod) ≡ true
+    on (byte b) a o = and-both (byte-sound (i .input) b a) o
+    on timeout a o = and-both (timeout-sound (i .input) a) (out-timeout-sound (i .output) o)
+    on (packetOut b) a o = and-both a (packet-sound (i .output) b o)
+    on taken a o = and-both a (taken-sound (i .output) o)
 
 -- a call that is lent nothing
 moved-sound : (m : Option PipeCall) (i : Pipe) → soundPipe i ≡ true → soundPipe (movedBy m i .pod) ≡ true

@@ -22,8 +22,8 @@ use Rattle.frames.specs.Layout.{framesOf}
 use Rattle.rules.specs.declared.Pod.{Pod}
 use Rattle.rules.specs.State.{Lent, storeIn, withExchange, withWords, withRing, withPipe, ringOf, freshPod}
 use Rattle.rules.specs.Obey.{Meant, success, report, value, block, shut, obeyOf, acknowledgedOf, reportOf}
-use Rattle.rules.specs.Refusals.{Giving, done, bytes, Out, roomRow, allRow, storeRow, tablesRow, stateRow, blockRow, setRow, overRow, asleepRow, fullRow}
-use Rattle.rules.specs.Families.{WordCall, wordOf, wordLent, Sends, LoneCall, deadline, pipe, Reach, reach, loneOf}
+use Rattle.rules.specs.Refusals.{Giving, done, bytes, Out, roomRow, allRow, storeRow, tablesRow, stateRow, blockRow, setRow, overRow, asleepRow, fullRow, busyRow, eightRow}
+use Rattle.rules.specs.Families.{WordCall, wordOf, wordLent, Sends, PipeCall, byte, timeout, packetOut, taken, LoneCall, deadline, pipe, Reach, reach, loneOf}
 
 -- ---- power on: lent the tables
 
@@ -111,11 +111,18 @@ worded o p = out (o .said) (withWords (o .pod) p) (o .lent)
 unfoldable pub wordCall : WordCall → Desk → Pod → Out Desk
 wordCall c d p = ran (wordRows c (d .tables) p) p d (worded (wordOf c (p .initialised) (p .words) d) p)
 
--- ---- the deadline and the byte pipe, lent nothing: what is sent comes as nothing
+-- ---- the deadline and the byte pipe, lent nothing: what is given comes as nothing
+
+-- "22 before 6, 21 last": the order is request No. 3's own, and does not rise
+abbrev pub pipeRows : PipeCall → Pod → List Row
+pipeRows (byte b) p = asleepRow p ∷ []
+pipeRows timeout p = asleepRow p ∷ []
+pipeRows (packetOut b) p = eightRow b ∷ asleepRow p ∷ busyRow p ∷ []
+pipeRows taken p = asleepRow p ∷ []
 
 abbrev pub loneRows : LoneCall → Pod → List Row
 loneRows deadline p = stateRow p ∷ []
-loneRows (pipe c) p = stateRow p ∷ asleepRow p ∷ []
+loneRows (pipe c) p = stateRow p ∷ pipeRows c p
 
 abbrev pub reachOf : Pod → Reach
 reachOf p = reach (p .exchange) (p .pipe)

@@ -22,19 +22,18 @@ use Rattle.tables.specs.declared.Given.the-variants.{Nowhere}
 use Rattle.tables.specs.declared.Transfer.the-variants.{Idle, Read}
 use Rattle.tables.specs.Tables.{starts, withReadPlace}
 use Rattle.tables.specs.Port.{startWords, dataCount}
-use Rattle.pipe.specs.declared.Input.{Input}
-use Rattle.pipe.specs.Input.{heldIn}
 use Rattle.frames.specs.Samples.{averagesOf}
 use Rattle.rules.specs.State.{ringOf, soundPod, Lent, storeIn, deskIn}
 use Rattle.rules.specs.Obey.{shut, exchangeCode, receives}
 use Rattle.rules.specs.Refusals.{done, reads}
 use Rattle.rules.specs.Families.{WordCall, command, dataIn, dataOut, status}
 use Rattle.rules.specs.World.{World, withPod, Call, packet, word, samples, roomOf, told, stepped, answering, isAnswered, isRefused, step, rowsOf, next, final, run, tells, powered}
-use Rattle.rules.specs.History.{events, eventOf, fold, succeeded, errored, Flow, noFlow, flowBy, sentBy}
+use Rattle.rules.specs.History.{events, eventOf, fold, succeeded, errored}
+use Rattle.rules.specs.Halves.{noFlow, flowBy, noHanding, handingBy}
 use Rattle.rules.specs.Replies.{awakeFrom, waitingFrom, statusFrom, readAnswered, receivedFrom, framesFrom}
 use Rattle.rules.specs.Checks.{Succeeds, Answers, damaged}
 use Rattle.rules.specs.Judged.{checkOf}
-use Rattle.rules.specs.Numbered.{rowHolds}
+use Rattle.rules.specs.Numbered.{rowsRise, rowsInOrder}
 use Rattle.rules.specs.Transfers.{cuts, cutsLoad, writtenIn, othersIn, opened, loaded, Loads, Loading, wordShown, readAs, readsIn, Reads, errorBy, tablesBy}
 use Rattle.rules.specs.Port.{portBy, heardIn, ported, portedBy}
 use Rattle.rules.specs.Pairs.{Accepts, ShutsDown, keptIn, seenIn, sizesIn, Asleep, Moment, pastOf}
@@ -45,17 +44,15 @@ use Rattle.rules.specs.Pairs.{Accepts, ShutsDown, keptIn, seenIn, sizesI
 abbrev pub AlwaysAnswered : Type 0
 AlwaysAnswered = (w : World) (c : Call) (n : ℕ) → (step w c .told .said ≡ refused n) ↔ First n (rowsOf w c)
 
--- "Lowest number first": the rows of every call rise, so that the first is the lowest
+-- "Lowest number first": the rows of every call of document 01 rise, so that the first is the lowest
 abbrev pub LowestFirst : Type 0
 LowestFirst =
-    (w : World) (c : Call) (n : ℕ)
+    (w : World) (c : Call) (n : ℕ) → rowsRise c ≡ true
     → (step w c .told .said ≡ refused n) ↔ ((held n (rowsOf w c) ≡ true) × ((m : ℕ) → m < n → held m (rowsOf w c) ≡ false))
 
--- and that, said by the table's numbers: "A number is given exactly when its row holds", and no lower one does
+-- and said by one table for all calls: "A number is given exactly when its row holds", and none before it does
 abbrev pub RowsExactly : Type 0
-RowsExactly =
-    (w : World) (c : Call) (n : ℕ)
-    → (step w c .told .said ≡ refused n) ↔ ((rowHolds n w c ≡ true) × ((m : ℕ) → m < n → rowHolds m w c ≡ false))
+RowsExactly = (w : World) (c : Call) (n : ℕ) → (step w c .told .said ≡ refused n) ↔ First n (rowsInOrder w c)
 
 -- "A refused call gives its number and nothing else, and changes nothing": the answer room, where one is lent, is as it came, "and a
 -- refused call leaves all its lent memory and the pod's state as they came"
@@ -222,26 +219,14 @@ ReadIsWritten =
     → isAnswered (final (powered l) cs) (packet b room) ≡ true
     → step (final (powered l) cs) (packet b room) .told ≡ answering room (readAnswered id (events (powered l) cs))
 
--- an input, by the bytes sent so far and by what the calls put in
-pub record Flows (i : Input) (sent : List ℕ) (f : Flow) : Type 0 where
-  -- no byte is lost, made or moved
-  pub conserved : sent ++ heldIn i ≡ f .accepted
-  pub gathered : heldIn i ≡ f .gathered
-  -- "timeouts since Initialise, up to 15", of those that had bytes to send
-  pub counted : i .timeouts ≡ min (f .timeouts) 15
-
--- the pipe is history: since the last power on or accepted Initialise
-abbrev pub PipeIsHistory : Type 0
-PipeIsHistory =
-    (l : Lent) (cs : List Call)
-    → Flows (final (powered l) cs .pod .pipe .input) (fold sentBy [] (events (powered l) cs)) (fold flowBy noFlow (events (powered l) cs))
-
 -- each answered sample set shows its averages and the history, sixteen bytes whole
 abbrev pub FramesAreHistory : Type 0
 FramesAreHistory =
     (l : Lent) (cs : List Call) (k : ℕ) (xs : List ℕ) → isAnswered (final (powered l) cs) (samples k xs) ≡ true
     → step (final (powered l) cs) (samples k xs) .told
-    ≡ told (gave done) (framesFrom (averagesOf 16 xs) (fold flowBy noFlow (events (powered l) cs)) (awakeFrom (events (powered l) cs)) k)
+    ≡ told (gave done)
+    (framesFrom (averagesOf 16 xs) (fold flowBy noFlow (events (powered l) cs)) (fold handingBy noHanding (events (powered l) cs))
+    (awakeFrom (events (powered l) cs)) k)
 
 -- ---- 3. "Give both the same accepted Initialise, then the same calls .. From that Initialise's answer on, their answers and
 -- table words are equal, and are those of demand 2."

@@ -11,7 +11,9 @@ use Rattle.tables.specs.Port.{Desk, Tabled, tabled, commandOf, dataInOf, dataOu
 use Rattle.pipe.specs.declared.Pipe.{Pipe}
 use Rattle.pipe.specs.declared.Sent.{Sent}
 use Rattle.pipe.specs.declared.Piped.{Piped}
+use Rattle.pipe.specs.declared.Handed.{Handed}
 use Rattle.pipe.specs.Input.{sentPacket, pipeByte, pipeTimeout}
+use Rattle.pipe.specs.Output.{outputPacket, outputTaken, outputTimeout}
 use Rattle.rules.specs.declared.Exchange.{Exchange}
 use Rattle.rules.specs.declared.Exchange.the-variants.{Closed}
 use Rattle.rules.specs.Refusals.{Giving, done, reads, tablesRow}
@@ -50,20 +52,29 @@ wordLent status t = []
 pub data PipeCall : Type 0 where
   byte : ℕ → PipeCall
   timeout : PipeCall
+  -- request No. 3: a packet from the aircraft for the camera, and the camera took the byte being shown
+  packetOut : List ℕ → PipeCall
+  taken : PipeCall
 
--- an effect that gives back no more than what it sends: the call says done
+-- an effect that gives back no more than the bytes that it sends the aircraft or shows the camera: the call says done
 abbrev pub Sends : Type 0 → Type 0
 Sends P = Out (Unit {0}) P Sent
 
--- what the input half makes of a call
+-- what the input half makes of a call, and what the output half does
 abbrev pub inputMoved : Piped → Pipe → Sends Pipe
-inputMoved q p = out tt (record { input = q .input }) (q .sent)
+inputMoved q p = out tt (record { input = q .input; output = p .output }) (q .sent)
+
+abbrev pub outputMoved : Handed → Pipe → Sends Pipe
+outputMoved q p = out tt (record { input = p .input; output = q .output }) (q .sent)
 
 unfoldable pub pipeOf : PipeCall → Pipe → Sends Pipe
 pipeOf (byte b) p = inputMoved (pipeByte (p .input) b) p
-pipeOf timeout p = inputMoved (pipeTimeout (p .input)) p
+-- both halves time out; what is given is what the input sends
+pipeOf timeout p = inputMoved (pipeTimeout (p .input)) (record { input = p .input; output = outputTimeout (p .output) })
+pipeOf (packetOut b) p = outputMoved (outputPacket (p .output) b) p
+pipeOf taken p = outputMoved (outputTaken (p .output)) p
 
--- ---- the calls that are lent nothing, and give back no more than what the pipe sends
+-- ---- the calls that are lent nothing, and give back no more than what the pipe gives
 
 pub data LoneCall : Type 0 where
   deadline : LoneCall

@@ -21,7 +21,7 @@ use Rattle.rules.specs.declared.Exchange.{Exchange}
 use Rattle.rules.specs.declared.Exchange.the-variants.{Closed, Status, Read, Receive}
 use Rattle.rules.specs.State.{ofStore, freshFields}
 use Rattle.rules.specs.Refusals.{Giving, done, bytes, reads}
-use Rattle.rules.specs.Families.{WordCall, PipeCall, byte, timeout, LoneCall, deadline, pipe}
+use Rattle.rules.specs.Families.{WordCall, PipeCall, LoneCall, deadline, pipe}
 use Rattle.rules.specs.World.{World, Call, power, packet, put, word, lone, samples, Told, step, next}
 
 -- ---- a call with what it told, read as what happened
@@ -51,7 +51,7 @@ pub data Event : Type 0 where
   hearsAcknowledgement : ℕ → Bool → Event
   puts : Store → List ℕ → Event
   words : WordCall → Event
-  -- a call that is lent nothing, and the bytes that it sent
+  -- a call that is lent nothing, and the bytes that it gave
   touches : Touch → List ℕ → Event
 
 -- a command answered without error
@@ -242,55 +242,3 @@ markBy id (hearsAcknowledgement first one) m = m
 markBy id (puts s b) m = m
 markBy id (words c) m = m
 markBy id (touches t l) m = m
-
--- ---- the pipe, since the beginning: by the calls' own inputs, and by the bytes that they gave
-
--- bytes accepted, those of them gathered, timeouts that had bytes to send
-pub record Flow : Type 0 where
-  pub accepted : List ℕ
-  pub gathered : List ℕ
-  pub timeouts : ℕ
-
-abbrev pub flow : List ℕ → List ℕ → ℕ → Flow
-flow a g n = record { accepted = a; gathered = g; timeouts = n }
-
-abbrev pub noFlow : Flow
-noFlow = flow [] [] 0
-
--- "Pipe bytes gather; the eighth sends all eight."; "The pipe timeout sends a short packet and counts one ..; with none gathered it
--- does nothing."
-unfoldable pub flowAfter : PipeCall → Flow → Flow
-flowAfter (byte b) f = flow (f .accepted ++ (b ∷ [])) (cond (ltb (length (f .gathered)) 7) (f .gathered ++ (b ∷ [])) []) (f .timeouts)
-flowAfter timeout f = flow (f .accepted) [] (cond (eqb (length (f .gathered)) 0) (f .timeouts) (f .timeouts + 1))
-
--- with no pipe call it is as it was
-abbrev pub flowMoved : Option PipeCall → Flow → Flow
-flowMoved none f = f
-flowMoved (some c) f = flowAfter c f
-
-unfoldable pub flowBy : Event → Flow → Flow
-flowBy nothing f = f
-flowBy (begins a g) f = noFlow
-flowBy sleeps f = f
-flowBy (updates g) f = f
-flowBy (writesParameter id v) f = f
-flowBy (opensExchange x) f = f
-flowBy closesExchange f = f
-flowBy (hearsAcknowledgement first one) f = f
-flowBy (puts s b) f = f
-flowBy (words c) f = f
-flowBy (touches t l) f = flowMoved (t .moves) f
-
--- the bytes sent
-unfoldable pub sentBy : Event → List ℕ → List ℕ
-sentBy nothing s = s
-sentBy (begins a f) s = []
-sentBy sleeps s = s
-sentBy (updates f) s = s
-sentBy (writesParameter id v) s = s
-sentBy (opensExchange x) s = s
-sentBy closesExchange s = s
-sentBy (hearsAcknowledgement first one) s = s
-sentBy (puts r b) s = s
-sentBy (words c) s = s
-sentBy (touches t l) s = s ++ l

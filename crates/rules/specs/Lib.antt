@@ -8,6 +8,7 @@ pub mod Calls
 pub mod World
 pub mod Said
 pub mod History
+pub mod Halves
 pub mod Replies
 pub mod Checks
 pub mod Judged

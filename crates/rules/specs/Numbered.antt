@@ -1,17 +1,20 @@
--- "Refused calls": document 01's table by its numbers, each row over every call, apart from the calls' own lists. "Each row
+-- "Refused calls": document 01's table and request No. 3's two rows, each over every call, apart from the calls' own lists. "Each row
 -- applies only to calls that are lent the thing."
 -- Assumes nothing.
 use Prim.Native.Nat.{ℕ}
 use mathlib.Core.Bool.{Bool, true, false, not, _&&_, _||_}
+use mathlib.Core.List.{List, [], _∷_}
 use lib.Dec.{ltb, leb, eqb}
 use lib.ListN.{length}
+use Rattle.rows.specs.Rows.{Row, row}
 use Rattle.blocks.specs.declared.Store.the-variants.{Priority, Ordinary}
 use Rattle.blocks.specs.Stores.{capacityOf, storeSized}
 use Rattle.tables.specs.Tables.{tablesSized}
+use Rattle.pipe.specs.declared.Pipe.{Pipe}
 use Rattle.frames.specs.Samples.{boundedOf}
 use Rattle.rules.specs.declared.Pod.{Pod}
 use Rattle.rules.specs.State.{Lent, storeIn, ringOf, soundPod}
-use Rattle.rules.specs.Families.{LoneCall, deadline, pipe}
+use Rattle.rules.specs.Families.{byte, timeout, packetOut, taken, LoneCall, deadline, pipe}
 use Rattle.rules.specs.Traits.{traits}
 use Rattle.rules.specs.World.{World, Call, power, packet, put, word, lone, samples}
 
@@ -83,13 +86,65 @@ storeFull (word c) p = false
 storeFull (lone c) p = false
 storeFull (samples k xs) p = false
 
--- the row of a number holds; no other number has a row
-unfoldable pub rowHolds : ℕ → World → Call → Bool
-rowHolds n w c =
-    (eqb n 1 && roomShort c)
-    || ((eqb n 2 && sizeWrong c (w .lent))
-    || ((eqb n 3 && stateBroken c (w .pod))
-    || ((eqb n 4 && countWrong c)
-    || ((eqb n 5 && numberOver c)
-    || ((eqb n 6 && podAsleep c (w .pod))
-    || (eqb n 7 && storeFull c (w .pod)))))))
+-- 21: request No. 3, "a packet while one is being handed over"
+abbrev pub handsOver : LoneCall → Pipe → Bool
+handsOver deadline i = false
+handsOver (pipe (byte b)) i = false
+handsOver (pipe timeout) i = false
+handsOver (pipe (packetOut b)) i = ltb 0 (i .output .hand)
+handsOver (pipe taken) i = false
+
+abbrev pub handBusy : Call → Pod → Bool
+handBusy power p = false
+handBusy (packet b room) p = false
+handBusy (put s b) p = false
+handBusy (word c) p = false
+handBusy (lone c) p = handsOver c (p .pipe)
+handBusy (samples k xs) p = false
+
+-- 22: "one not of 8 bytes"
+abbrev pub notEight : LoneCall → Bool
+notEight deadline = false
+notEight (pipe (byte b)) = false
+notEight (pipe timeout) = false
+notEight (pipe (packetOut b)) = not (eqb (length b) 8)
+notEight (pipe taken) = false
+
+abbrev pub packetWrong : Call → Bool
+packetWrong power = false
+packetWrong (packet b room) = false
+packetWrong (put s b) = false
+packetWrong (word c) = false
+packetWrong (lone c) = notEight c
+packetWrong (samples k xs) = false
+
+-- the rows in the order in which they are judged: document 01's rise, and of request No. 3's "22 before 6, 21 last"; no other number
+-- has a row
+unfoldable pub rowsInOrder : World → Call → List Row
+rowsInOrder w c =
+    row 1 (roomShort c)
+    ∷ row 2 (sizeWrong c (w .lent))
+    ∷ row 3 (stateBroken c (w .pod))
+    ∷ row 4 (countWrong c)
+    ∷ row 5 (numberOver c)
+    ∷ row 22 (packetWrong c)
+    ∷ row 6 (podAsleep c (w .pod))
+    ∷ row 7 (storeFull c (w .pod))
+    ∷ row 21 (handBusy c (w .pod))
+    ∷ []
+
+-- the calls whose rows rise: all but the packet out
+abbrev pub loneRises : LoneCall → Bool
+loneRises deadline = true
+loneRises (pipe (byte b)) = true
+loneRises (pipe timeout) = true
+loneRises (pipe (packetOut b)) = false
+loneRises (pipe taken) = true
+
+abbrev pub rowsRise : Call → Bool
+rowsRise power = true
+rowsRise (packet b room) = true
+rowsRise (put s b) = true
+rowsRise (word c) = true
+rowsRise (lone c) = loneRises c
+rowsRise (samples k xs) = true

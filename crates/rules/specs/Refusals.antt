@@ -1,4 +1,4 @@
--- "Refused calls": document 01's numbers and rows, and the answers in its numbers.
+-- "Refused calls": document 01's numbers and rows, request No. 3's two, and the answers in these numbers.
 -- Assumes nothing.
 use Prim.Native.Nat.{ℕ}
 use mathlib.Core.Bool.{not, _&&_}
@@ -10,10 +10,11 @@ use Rattle.blocks.specs.declared.Store.{Store}
 use Rattle.blocks.specs.declared.Store.the-variants.{Priority, Ordinary}
 use Rattle.blocks.specs.Stores.{capacityOf, storeSized}
 use Rattle.tables.specs.Tables.{Three, tablesSized}
+use Rattle.pipe.specs.Output.{busyOf}
 use Rattle.frames.specs.Samples.{boundedOf}
 use Rattle.rules.specs.declared.Pod.{Pod}
 use Rattle.rules.specs.declared.Refusal.{Refusal}
-use Rattle.rules.specs.declared.Refusal.the-variants.{Room, Size, State, Count, Over, Asleep, Full}
+use Rattle.rules.specs.declared.Refusal.the-variants.{Room, Size, State, Count, Over, Asleep, Full, Busy, Eight}
 use Rattle.rules.specs.declared.Answer.{Answer}
 use Rattle.rules.specs.declared.Answer.the-variants.{Refused, Done, Length, Word}
 use Rattle.rules.specs.State.{Lent, ringOf, soundPod}
@@ -39,6 +40,8 @@ refusalNumber Count = 4
 refusalNumber Over = 5
 refusalNumber Asleep = 6
 refusalNumber Full = 7
+refusalNumber Busy = 21
+refusalNumber Eight = 22
 
 -- an answer in document 01's numbers
 unfoldable pub answerSaid : Answer → Said Giving
@@ -85,3 +88,11 @@ asleepRow p = row 6 (not (p .initialised))
 -- 7: "that store is full"
 abbrev pub fullRow : Store → Pod → Row
 fullRow s p = row 7 (leb (capacityOf s) (ringOf s p .waiting))
+
+-- 21: request No. 3, "a packet while one is being handed over"
+abbrev pub busyRow : Pod → Row
+busyRow p = row 21 (busyOf (p .pipe .output))
+
+-- 22: "one not of 8 bytes"
+abbrev pub eightRow : List ℕ → Row
+eightRow b = row 22 (not (eqb (length b) 8))

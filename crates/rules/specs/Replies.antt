@@ -15,7 +15,8 @@ use Rattle.params.specs.Rows.{paramIds, paramRow}
 use Rattle.params.specs.Rules.{isId, filter}
 use Rattle.rules.specs.State.{remainingOf}
 use Rattle.rules.specs.Obey.{receives}
-use Rattle.rules.specs.History.{Event, fold, awakeBy, waitingBy, nothingWaits, fieldedBy, freshFielded, valueBy, markBy, Flow}
+use Rattle.rules.specs.History.{Event, fold, awakeBy, waitingBy, nothingWaits, fieldedBy, freshFielded, valueBy, markBy}
+use Rattle.rules.specs.Halves.{Flow, Handing, inHand}
 
 abbrev pub awakeFrom : List Event → Bool
 awakeFrom es = fold awakeBy false es
@@ -60,12 +61,12 @@ receivedFrom s es =
 
 -- the two frames of eight averages, by what the pipe's calls put in, awake or not, with the self-check number: "channels 1 to 3 and
 -- 5 to 7, low byte, then bits 9 and 8. In AN03: input timeouts in 0.7-4; 3.7 is 1 when 1 to 7 bytes are gathered; 5.2 is 1 when
--- initialised; the self-check number in 7.6-2; all else 0"
-unfoldable pub framesFrom : List ℕ → Flow → Bool → ℕ → List ℕ
-framesFrom a f awake check =
-    (min (f .timeouts) 15 * 16) ∷ 0
+-- initialised; the self-check number in 7.6-2; all else 0"; request No. 3: "AN03 then carries the count in 0.3-0 and output busy in 5.7"
+unfoldable pub framesFrom : List ℕ → Flow → Handing → Bool → ℕ → List ℕ
+framesFrom a f h awake check =
+    (min (f .timeouts) 15 * 16 + min (h .timeouts) 15) ∷ 0
     ∷ (getD a 1 0 % 256) ∷ (cond (ltb 0 (length (f .gathered))) 128 0 + getD a 1 0 / 256)
-    ∷ (getD a 2 0 % 256) ∷ (cond awake 4 0 + getD a 2 0 / 256)
+    ∷ (getD a 2 0 % 256) ∷ (cond (ltb 0 (length (inHand (h .packets)))) 128 0 + cond awake 4 0 + getD a 2 0 / 256)
     ∷ (getD a 3 0 % 256) ∷ (check * 4 + getD a 3 0 / 256)
     ∷ 0 ∷ 0
     ∷ (getD a 5 0 % 256) ∷ (getD a 5 0 / 256)

@@ -27,7 +27,7 @@ pub struct Pod {
     pub pipe: Pipe,
 }
 
-// Why a call is refused: document 01's rows 1 to 7, in their order.
+// Why a call is refused: document 01's rows 1 to 7, in their order, and request No. 3's 21 and 22.
 pub enum Refusal {
     Room,
     Size,
@@ -36,6 +36,8 @@ pub enum Refusal {
     Over,
     Asleep,
     Full,
+    Busy,
+    Eight,
 }
 
 // What a call answers, besides bytes that lie in lent memory or stand beside it.

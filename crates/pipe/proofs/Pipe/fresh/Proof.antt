@@ -6,4 +6,4 @@ use Rattle.pipe.proofs.Pipe.fresh.Tie as tie
 
 pub fresh-spec : {M : Type 1} → statement M
 unfolding freshPipe
-fresh-spec = tie.close (tie.spec (λ c κs. search needs) (λ c. cc (c .fresh .ensures)))
+fresh-spec = tie.close (tie.spec (λ c κs. search needs) (λ c κs. search needs) (λ c. cc (c .fresh2 .ensures, c .before .fresh .ensures)))

@@ -6,4 +6,4 @@ use Rattle.pipe.proofs.Pipe.sound.Tie as tie
 
 pub sound-spec : {M : Type 1} → statement M
 unfolding soundPipe
-sound-spec = tie.close (tie.spec (λ c κs. search needs) (λ c. c .sound .ensures))
+sound-spec = tie.close (tie.spec (λ c κs. search needs) (λ c κs. search needs) (λ c. cc (c .sound2 .ensures, c .before .sound .ensures)))
