@@ -8,7 +8,7 @@ use lib.ListN.{length, take}
 use Rattle.rows.specs.Rows.{Said, refused, gave}
 use Rattle.rows.proofs.Bool.{split}
 use Rattle.lines.specs.Cut.{before}
-use Rattle.lines.specs.Asked.{Asked, packet, deadline, put, command, dataIn, dataOut, status, samples, askByte, askTimeout, power, other}
+use Rattle.lines.specs.Asked.{Asked, packet, deadline, put, command, dataIn, dataOut, status, samples, askByte, askTimeout, askOut, askTaken, power, other}
 use Rattle.lines.proofs.OneLine.{bytes-one, word-one, bare-one, refused-one}
 use Rattle.rules.specs.Refusals.{Giving, done, bytes, reads}
 use Rattle.rules.specs.World.{Told}
@@ -33,6 +33,8 @@ letter-inked status = omega arith
 letter-inked (samples k ws) = omega arith
 letter-inked (askByte b) = omega arith
 letter-inked askTimeout = omega arith
+letter-inked (askOut bs) = omega arith
+letter-inked askTaken = omega arith
 letter-inked power = omega arith
 letter-inked other = omega arith
 

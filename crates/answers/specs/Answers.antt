@@ -9,8 +9,8 @@ use Rattle.rules.specs.Refusals.{Giving, done, bytes, reads}
 use Rattle.rules.specs.World.{Told}
 use Rattle.items.specs.Characters.{question}
 use Rattle.items.specs.Printed.{bytesLine, wordLine, bareLine, refusedLine}
-use Rattle.lines.specs.Letters.{letterP, letterD, letterB, letterC, letterW, letterR, letterS, letterA, letterI, letterT, letterZ}
-use Rattle.lines.specs.Asked.{Asked, packet, deadline, put, command, dataIn, dataOut, status, samples, askByte, askTimeout, power, other}
+use Rattle.lines.specs.Letters.{letterP, letterD, letterB, letterC, letterW, letterR, letterS, letterA, letterI, letterT, letterO, letterK, letterZ}
+use Rattle.lines.specs.Asked.{Asked, packet, deadline, put, command, dataIn, dataOut, status, samples, askByte, askTimeout, askOut, askTaken, power, other}
 
 -- how a line is answered: behind which letter, and whether a call that is done lists the bytes that it gives
 pub record Form : Type 0 where
@@ -26,7 +26,7 @@ plain c = form c false
 abbrev pub listing : ℕ → Form
 listing c = form c true
 
--- the letter of the line again; samples list their two frames, the pipe lists what it sends; `?` for a line that calls nothing
+-- the letter of the line again; samples list their two frames, the pipe lists what it sends or shows; `?` for a line that calls nothing
 unfoldable pub formOf : Asked → Form
 formOf (packet bs) = plain letterP
 formOf deadline = plain letterD
@@ -38,6 +38,8 @@ formOf status = plain letterS
 formOf (samples k ws) = listing letterA
 formOf (askByte b) = listing letterI
 formOf askTimeout = listing letterT
+formOf (askOut bs) = listing letterO
+formOf askTaken = listing letterK
 formOf power = plain letterZ
 formOf other = plain question
 

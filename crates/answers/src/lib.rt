@@ -32,6 +32,8 @@ fn number(refusal: Refusal) -> u8
         Refusal::Over => 5,
         Refusal::Asleep => 6,
         Refusal::Full => 7,
+        Refusal::Busy => 21,
+        Refusal::Eight => 22,
     }
 }
 
@@ -98,7 +100,7 @@ pub fn put_frames(out: &mut [u8], at: usize, answer: Answer, frames: Frames) -> 
     put_line(out, at, b'A', true, answer, &both)
 }
 
-// A pipe call, with what it sends.
+// A pipe call, with what it gives.
 pub fn put_sent(out: &mut [u8], at: usize, letter: u8, answer: Answer, sent: Sent) -> usize
     requires { ⌜ at + 28 ≤ length (now out) ⌝ }
     ensures { λ r. ⌜ r ≡ at + length (saidLine (listing letter) (answerSaid answer) (sentBytes sent)) ⌝ }

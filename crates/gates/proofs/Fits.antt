@@ -13,13 +13,16 @@ use Rattle.blocks.specs.declared.Store.{Store}
 use Rattle.blocks.specs.Stores.{capacityOf, storeSized, soundRing}
 use Rattle.tables.specs.Tables.{Three, tablesSized}
 use Rattle.tables.specs.Bounds.{soundWords}
+use Rattle.pipe.specs.Input.{soundInput}
+use Rattle.pipe.specs.Output.{soundOutput}
 use Rattle.pipe.specs.Pipe.{soundPipe}
-use Rattle.pipe.proofs.Laws.{sound-in}
+use Rattle.pipe.proofs.Laws.{sound-in, sound-out}
 use Rattle.frames.specs.Samples.{boundedOf}
 use Rattle.rules.specs.declared.Pod.{Pod}
 use Rattle.rules.specs.State.{ringOf}
 use Rattle.rules.specs.Refusals.{tablesRow, stateRow, asleepRow}
-use Rattle.rules.specs.Calls.{putRows, samplesRows}
+use Rattle.rules.specs.Families.{packetOut, pipe}
+use Rattle.rules.specs.Calls.{putRows, loneRows, samplesRows}
 use Rattle.rules.proofs.Inside.{pod-in, ring-in}
 
 pub store-length : (s : Store) (l : List ℕ) → storeSized s l ≡ true → length l ≡ capacityOf s * 256
@@ -45,15 +48,24 @@ tables-fit t (past k ks) = table-lengths t (not-false k)
 pub words-fit : (t : Three) (p : Pod) → Clear (tablesRow t ∷ stateRow p ∷ []) → Sized t × (soundWords (p .words) ≡ true)
 words-fit t p (past k (past ok none)) = (table-lengths t (not-false k), pod-in p (not-false ok) .words)
 
-pub pipe-fits : (p : Pod) {rs : List Row} → Clear (stateRow p ∷ rs) → (p .pipe .input .gathered ≤ 7) × (p .pipe .input .timeouts ≤ 15)
+pub pipe-fits : (p : Pod) {rs : List Row} → Clear (stateRow p ∷ rs)
+    → ((p .pipe .input .gathered ≤ 7) × (p .pipe .input .timeouts ≤ 15)) × ((p .pipe .output .hand ≤ 8) × (p .pipe .output .timeouts ≤ 15))
 unfolding soundPipe
-pipe-fits p (past ok k) = sound-in (p .pipe .input) (pod-in p (not-false ok) .pipe)
+pipe-fits p (past ok k) =
+    let h = pod-in p (not-false ok) .pipe in
+    let i = p .pipe .input in
+    let o = p .pipe .output in
+    (sound-in i (and-left (soundInput i) (soundOutput o) h), sound-out o (and-right (soundInput i) (soundOutput o) h))
+
+pub out-fits : (b : List ℕ) (p : Pod) → Clear (loneRows (pipe (packetOut b)) p) → length b ≡ 8
+out-fits b p (past ok (past long k)) = eqb-true _ _ (not-false long)
 
 pub samples-fit : (check : ℕ) (xs : List ℕ) (p : Pod) → Clear (samplesRows check xs p)
-    → (length xs ≡ 128) × (boundedOf xs ≡ true) × (p .pipe .input .timeouts ≤ 15) × (check ≤ 31)
+    → (length xs ≡ 128) × (boundedOf xs ≡ true) × (p .pipe .input .timeouts ≤ 15) × (p .pipe .output .timeouts ≤ 15) × (check ≤ 31)
 samples-fit check xs p (past ok (past n (past within none))) =
     let inside = not-false within in
-    (eqb-true _ _ (not-false n), and-left (boundedOf xs) (leb check 31) inside, pipe-fits p (past ok none) .1, leb-true _ _ (and-right (boundedOf xs) (leb check 31) inside))
+    let counts = pipe-fits p (past ok none) in
+    (eqb-true _ _ (not-false n), and-left (boundedOf xs) (leb check 31) inside, counts .0 .1, counts .1 .1, leb-true _ _ (and-right (boundedOf xs) (leb check 31) inside))
 
 pub put-fits : (s : Store) (b store : List ℕ) (p : Pod) → Clear (putRows s b store p)
     → ((soundRing (capacityOf s) (ringOf s p) ≡ true) × (ringOf s p .waiting < capacityOf s)) × ((length store ≡ capacityOf s * 256) × (length b ≡ 256))

@@ -7,7 +7,7 @@ use lib.ListN.{take}
 use Rattle.blocks.specs.declared.Store.{Store}
 use Rattle.lines.specs.declared.Line.{Line}
 use Rattle.lines.specs.declared.Line.the-variants as line
-use Rattle.lines.specs.Asked.{Asked, packet, put, samples}
+use Rattle.lines.specs.Asked.{Asked, packet, put, samples, askOut}
 use Rattle.line_calls.specs.Calls.{heardLine}
 
 pub heard-as : (bs ws : List ℕ) {l k : Line} → l ≡ k → heardLine l bs ws ≡ heardLine k bs ws
@@ -16,6 +16,10 @@ heard-as bs ws e = ap (λ (l : Line). heardLine l bs ws) e
 pub packet-asked : (bs ws : List ℕ) {l : Line} {n : ℕ} {b : List ℕ} → l ≡ line.Packet n → b ≡ take n bs → heardLine l bs ws ≡ packet b
 unfolding heardLine
 packet-asked bs ws e f = heard-as bs ws e ∙ ap packet (sym f)
+
+pub out-asked : (bs ws : List ℕ) {l : Line} {n : ℕ} {b : List ℕ} → l ≡ line.Out n → b ≡ take n bs → heardLine l bs ws ≡ askOut b
+unfolding heardLine
+out-asked bs ws e f = heard-as bs ws e ∙ ap askOut (sym f)
 
 pub put-asked : (bs ws : List ℕ) {l : Line} {s t : Store} {n : ℕ} {b : List ℕ} → l ≡ line.Put s n → s ≡ t → b ≡ take n bs
     → heardLine l bs ws ≡ put t b

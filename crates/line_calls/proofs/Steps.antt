@@ -3,6 +3,7 @@
 use Prim.Native.Nat.{ℕ}
 use mathlib.Core.Path.{_≡_, refl, sym, ap, subst, _∙_}
 use mathlib.Core.List.{List, []}
+use mathlib.Core.Option.{some}
 use lib.ListN.{take}
 use Rattle.rows.specs.Rows.{Said, gave, Out, out}
 use Rattle.blocks.specs.declared.Store.{Store}
@@ -22,13 +23,13 @@ use Rattle.rules.specs.Refusals.{Giving, done, answerSaid}
 use Rattle.rules.specs.Families.{WordCall, PipeCall}
 use Rattle.rules.specs.Families as family
 use Rattle.rules.specs.Calls.{Roomed, roomed, powerCall, packetCall, putCall, wordCall, loneCall, samplesCall}
-use Rattle.rules.specs.World.{World, world, told, Stepped, stepped, overTables, overRoom, overStore, overDesk, overSent, overFrames, framesIn, step}
-use Rattle.lines.specs.Letters.{letterP, letterD, letterB, letterC, letterW, letterR, letterS, letterA, letterI, letterT, letterZ}
-use Rattle.lines.specs.Asked.{Asked, packet, deadline, put, command, dataIn, dataOut, status, samples, askByte, askTimeout, power, other}
+use Rattle.rules.specs.World.{World, world, lone, Told, told, Stepped, stepped, overTables, overRoom, overStore, overDesk, overSent, overFrames, framesIn, step}
+use Rattle.lines.specs.Letters.{letterP, letterD, letterB, letterC, letterW, letterR, letterS, letterA, letterI, letterT, letterO, letterK, letterZ}
+use Rattle.lines.specs.Asked.{Asked, packet, deadline, put, command, dataIn, dataOut, status, samples, askByte, askTimeout, askOut, askTaken, power, other}
 use Rattle.items.specs.Characters.{question}
 use Rattle.answers.specs.Answers.{plain, listing, formOf, saidLine, lineText}
 use Rattle.line_calls.specs.declared.LineSaid.{LineSaid}
-use Rattle.line_calls.specs.Calls.{callOf, lineStep, roomAfter}
+use Rattle.line_calls.specs.Calls.{callOf, stepIf, lineStep, roomAfter}
 use Rattle.line_calls.specs.Memory.{Memory, memory, lentIn}
 use Rattle.line_calls.specs.Promise.{Printed, stepOf, LineAnswered}
 use Rattle.line_calls.proofs.Short.{packet-said}
@@ -112,21 +113,37 @@ module _ (p : Pod) (m : Memory) (r : LineSaid) (o o′ : List ℕ) (at : ℕ) wh
   by-samples f k xs e q t =
       answered-by (samples k xs) p m m r o o′ at (answerSaid (f .answer)) (framesIn (answerSaid (f .answer)) (f .frames)) _ p (ap (λ x. overFrames x w) (sym e)) refl refl q t
 
-  -- the pipe's two calls
+  -- a pipe call
   module _ (c : Passed) (q : r .pod ≡ c .pod) where
-    pub by-byte : (b : ℕ) → out (answerSaid (c .answer)) (c .pod) (c .sent) ≡ loneCall (family.pipe (family.byte b)) p
-        → Printed (saidLine (listing letterI) (answerSaid (c .answer)) (sentBytes (c .sent))) at (r .at) o o′
-        → LineAnswered (askByte b) p m m r o o′ at
-    unfolding lineStep callOf step lineText formOf roomAfter
-    by-byte b e t =
-        answered-by (askByte b) p m m r o o′ at (answerSaid (c .answer)) (sentBytes (c .sent)) _ (c .pod) (ap (λ x. overSent x w) (sym e)) refl refl q t
+    -- whichever line asks it, behind its letter
+    by-pipe : (a : Asked) (k : PipeCall) (l : ℕ) → callOf a (m .room) ≡ some (lone (family.pipe k)) → formOf a ≡ listing l
+        → ((t : Told) → roomAfter a (m .room) t ≡ m .room) → out (answerSaid (c .answer)) (c .pod) (c .sent) ≡ loneCall (family.pipe k) p
+        → Printed (saidLine (listing l) (answerSaid (c .answer)) (sentBytes (c .sent))) at (r .at) o o′ → LineAnswered a p m m r o o′ at
+    unfolding lineStep step lineText
+    by-pipe a k l asks forms kept e t =
+        answered-by a p m m r o o′ at (answerSaid (c .answer)) (sentBytes (c .sent)) _ (c .pod)
+        (ap (λ x. stepIf x w) asks ∙ ap (λ x. overSent x w) (sym e)) (sym (kept _)) (ap (λ f. saidLine f (answerSaid (c .answer)) (sentBytes (c .sent))) (sym forms)) q t
 
-    pub by-timeout : out (answerSaid (c .answer)) (c .pod) (c .sent) ≡ loneCall (family.pipe family.timeout) p
-        → Printed (saidLine (listing letterT) (answerSaid (c .answer)) (sentBytes (c .sent))) at (r .at) o o′
-        → LineAnswered askTimeout p m m r o o′ at
-    unfolding lineStep callOf step lineText formOf roomAfter
-    by-timeout e t =
-        answered-by askTimeout p m m r o o′ at (answerSaid (c .answer)) (sentBytes (c .sent)) _ (c .pod) (ap (λ x. overSent x w) (sym e)) refl refl q t
+    abbrev Passes : PipeCall → ℕ → Asked → Type 0
+    Passes k l a =
+        out (answerSaid (c .answer)) (c .pod) (c .sent) ≡ loneCall (family.pipe k) p
+        → Printed (saidLine (listing l) (answerSaid (c .answer)) (sentBytes (c .sent))) at (r .at) o o′ → LineAnswered a p m m r o o′ at
+
+    pub by-byte : (b : ℕ) → Passes (family.byte b) letterI (askByte b)
+    unfolding callOf formOf roomAfter
+    by-byte b = by-pipe (askByte b) (family.byte b) letterI refl refl (λ t. refl)
+
+    pub by-timeout : Passes family.timeout letterT askTimeout
+    unfolding callOf formOf roomAfter
+    by-timeout = by-pipe askTimeout family.timeout letterT refl refl (λ t. refl)
+
+    pub by-out : (b : List ℕ) → Passes (family.packetOut b) letterO (askOut b)
+    unfolding callOf formOf roomAfter
+    by-out b = by-pipe (askOut b) (family.packetOut b) letterO refl refl (λ t. refl)
+
+    pub by-taken : Passes family.taken letterK askTaken
+    unfolding callOf formOf roomAfter
+    by-taken = by-pipe askTaken family.taken letterK refl refl (λ t. refl)
 
   -- the four table words
   module _ (c : Worded) (q : r .pod ≡ withWords (c .words) p) where

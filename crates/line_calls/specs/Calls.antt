@@ -11,7 +11,7 @@ use Rattle.rules.specs.World.{World, Call, Stepped, Told, stepped, step}
 use Rattle.rules.specs.World as rules
 use Rattle.lines.specs.declared.Line.{Line}
 use Rattle.lines.specs.declared.Line.the-variants as line
-use Rattle.lines.specs.Asked.{Asked, packet, deadline, put, command, dataIn, dataOut, status, samples, askByte, askTimeout, power, other}
+use Rattle.lines.specs.Asked.{Asked, packet, deadline, put, command, dataIn, dataOut, status, samples, askByte, askTimeout, askOut, askTaken, power, other}
 
 -- what a line that was read asks: its bytes and words are the first ones of those that lie in lent memory
 unfoldable pub heardLine : Line → List ℕ → List ℕ → Asked
@@ -25,6 +25,8 @@ heardLine line.Status bs ws = status
 heardLine (line.Samples k n) bs ws = samples k (take n ws)
 heardLine (line.Byte b) bs ws = askByte b
 heardLine line.Timeout bs ws = askTimeout
+heardLine (line.Out n) bs ws = askOut (take n bs)
+heardLine line.Taken bs ws = askTaken
 heardLine line.Power bs ws = power
 heardLine line.Other bs ws = other
 
@@ -40,6 +42,8 @@ callOf status room = some (rules.word family.status)
 callOf (samples k ws) room = some (rules.samples k ws)
 callOf (askByte b) room = some (rules.lone (family.pipe (family.byte b)))
 callOf askTimeout room = some (rules.lone (family.pipe family.timeout))
+callOf (askOut bs) room = some (rules.lone (family.pipe (family.packetOut bs)))
+callOf askTaken room = some (rules.lone (family.pipe family.taken))
 callOf power room = some rules.power
 callOf other room = none
 
@@ -63,5 +67,7 @@ roomAfter status room t = room
 roomAfter (samples k ws) room t = room
 roomAfter (askByte b) room t = room
 roomAfter askTimeout room t = room
+roomAfter (askOut bs) room t = room
+roomAfter askTaken room t = room
 roomAfter power room t = room
 roomAfter other room t = room

@@ -89,6 +89,8 @@ pub fn reply(
         ),
         Line::Byte(byte) => passed(pod::pipe_byte(pod, byte), b'I', out, at),
         Line::Timeout => passed(pod::pipe_timeout(pod), b'T', out, at),
+        Line::Out(n) => passed(pod::packet_out(pod, front(bytes, n)), b'O', out, at),
+        Line::Taken => passed(pod::taken(pod), b'K', out, at),
         Line::Power => said(pod::power_on(pod, five, six, seven), b'Z', out, at),
         Line::Other => said(
             Called {

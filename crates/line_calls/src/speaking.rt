@@ -65,7 +65,7 @@ pub fn worded(pod: Pod, worded: Worded, letter: u8, out: &mut [u8], at: usize) -
     }
 }
 
-// What the pipe sends.
+// What the pipe gives.
 pub fn passed(passed: Passed, letter: u8, out: &mut [u8], at: usize) -> LineSaid
     requires { ⌜ at + 784 ≤ length (now out) ⌝ }
     ensures { λ r. ⌜ r .pod ≡ passed .pod ⌝ }

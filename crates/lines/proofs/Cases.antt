@@ -13,9 +13,9 @@ use Rattle.blocks.specs.declared.Store.{Store}
 use Rattle.blocks.specs.declared.Store.the-variants.{Priority, Ordinary}
 use Rattle.items.specs.declared.Items.{Items}
 use Rattle.lines.specs.declared.Line.{Line}
-use Rattle.lines.specs.declared.Line.the-variants.{Packet, Put, Samples, Other}
+use Rattle.lines.specs.declared.Line.the-variants.{Packet, Put, Samples, Out, Other}
 use Rattle.items.specs.Text.{ItemsRead, bytesIn, wordsIn, itemsOf}
-use Rattle.lines.specs.Asked.{Asked, packet, put, samples, Asking, unasked, wholly, oneByte, packing, packetIn, isPut, putting, putIn, sampling, samplesIn, bareAsked, shortAsked, lineOf, sayLine, counted}
+use Rattle.lines.specs.Asked.{Asked, packet, put, samples, askOut, Asking, unasked, wholly, oneByte, packing, packetIn, outIn, isPut, putting, putIn, sampling, samplesIn, bareAsked, shortAsked, lineOf, sayLine, counted}
 use Rattle.rows.proofs.Bool.{split}
 
 -- a text without characters
@@ -40,6 +40,10 @@ read-as r f g i x e ei ex = ex ∙ ap (λ (j : Items). counted j g) ei ∙ count
 packet-said : (vs : List ℕ) → sayLine (packet vs) ≡ Packet (length vs)
 unfolding sayLine
 packet-said vs = refl
+
+out-said : (vs : List ℕ) → sayLine (askOut vs) ≡ Out (length vs)
+unfolding sayLine
+out-said vs = refl
 
 put-said : (s : Store) (vs : List ℕ) → sayLine (put s vs) ≡ Put s (length vs)
 unfolding sayLine
@@ -102,6 +106,12 @@ pub put-is : (s : Store) (t l k : List ℕ) (r : ItemsRead) (i : Items) (x : Lin
     → i ≡ itemsOf r → k ≡ sets l 0 (r .values) → x ≡ counted i (Put s) → Heard (putIn t .asked) (putIn t .bytes) x l k
 put-is s t l k r i x e ei ek ex = rw e (read-as r (put s) (Put s) i x (put-said s) ei ex, ek)
 
+-- `O`
+pub out-is : (t l k : List ℕ) (i : Items) (x : Line) → i ≡ itemsOf (bytesIn (drop 1 t)) → k ≡ sets l 0 (bytesIn (drop 1 t) .values)
+    → x ≡ counted i Out → Heard (outIn t .asked) (outIn t .bytes) x l k
+unfolding outIn
+out-is t l k i x ei ek ex = (read-as (bytesIn (drop 1 t)) askOut Out i x out-said ei ex, ek)
+
 -- `A`
 pub samples-yes : (t : List ℕ) → oneByte (take 3 (drop 1 t)) < 256
     → samplesIn t ≡ sampling (oneByte (take 3 (drop 1 t))) (wordsIn (drop 4 t))
@@ -156,11 +166,15 @@ pub line-put : (t l k m : List ℕ) (x : Line) → getD t 0 0 ≡ 66 → x ≡ s
 unfolding lineOf
 line-put t l k m x e ex ek = rw e (ex, (ek, ap (sets m 0) (sym (put-words t))))
 
+pub line-out : (t l k m : List ℕ) (x : Line) → getD t 0 0 ≡ 79 → x ≡ sayLine (outIn t .asked) → k ≡ sets l 0 (outIn t .bytes) → Read t x l k m m
+unfolding lineOf outIn
+line-out t l k m x e ex ek = rw e (ex, (ek, refl))
+
 pub line-samples : (t l m n : List ℕ) (x : Line) → getD t 0 0 ≡ 65 → x ≡ sayLine (samplesIn t .asked) → n ≡ sets m 0 (samplesIn t .words) → Read t x l l m n
 unfolding lineOf
 line-samples t l m n x e ex en = rw e (ex, (ap (sets l 0) (sym (samples-bytes t)), en))
 
-pub line-short : (t l m : List ℕ) (x : Line) → (getD t 0 0 ≡ 80 → ⊥) → (getD t 0 0 ≡ 66 → ⊥) → (getD t 0 0 ≡ 65 → ⊥)
+pub line-short : (t l m : List ℕ) (x : Line) → (getD t 0 0 ≡ 80 → ⊥) → (getD t 0 0 ≡ 66 → ⊥) → (getD t 0 0 ≡ 79 → ⊥) → (getD t 0 0 ≡ 65 → ⊥)
     → x ≡ sayLine (shortAsked (getD t 0 0) (drop 1 t)) → Read t x l l m m
 unfolding lineOf
-line-short t l m x p b a ex = rw (ne-eqb (getD t 0 0) 80 p, ne-eqb (getD t 0 0) 66 b, ne-eqb (getD t 0 0) 65 a) (ex, (refl, refl))
+line-short t l m x p b o a ex = rw (ne-eqb (getD t 0 0) 80 p, ne-eqb (getD t 0 0) 66 b, ne-eqb (getD t 0 0) 79 o, ne-eqb (getD t 0 0) 65 a) (ex, (refl, refl))

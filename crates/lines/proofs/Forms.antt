@@ -9,7 +9,7 @@ use borrow.Author.Tests.{lt-ltb, eqb-true}
 use Rattle.hex.specs.Digits.{byteDigits, wordDigits}
 use Rattle.blocks.specs.declared.Store.the-variants.{Priority, Ordinary}
 use Rattle.items.specs.Text.{spell, bytesIn}
-use Rattle.lines.specs.Asked.{packet, deadline, put, command, dataIn, dataOut, status, samples, askByte, askTimeout, power, other, asking, oneByte, oneWord, packetIn, putIn, samplesIn, bareAsked, wordAsked, byteAsked, shortAsked, lineOf}
+use Rattle.lines.specs.Asked.{packet, deadline, put, command, dataIn, dataOut, status, samples, askByte, askTimeout, askOut, askTaken, power, other, asking, oneByte, oneWord, packetIn, outIn, putIn, samplesIn, bareAsked, wordAsked, byteAsked, shortAsked, lineOf}
 use Rattle.rows.proofs.Bool.{split}
 use Rattle.items.proofs.Laws.{Under, spellWords, byte-back, word-back, bytes-back, words-back, bytes-only}
 
@@ -47,6 +47,11 @@ pub ordinary-form : (bs : List ℕ) → Under 256 bs → lineOf (66 ∷ 32 ∷ 1
 unfolding lineOf putIn
 ordinary-form bs u = rw (bytes-back bs u)
 
+-- `O` and bytes
+pub out-form : (bs : List ℕ) → Under 256 bs → lineOf (79 ∷ spell bs) ≡ asking (askOut bs) bs []
+unfolding lineOf outIn
+out-form bs u = rw (bytes-back bs u)
+
 -- `C` and a word, `W` and a word
 pub command-form : (w : ℕ) → w < 65536 → lineOf (67 ∷ 32 ∷ wordDigits w) ≡ asking (command w) [] []
 unfolding lineOf shortAsked oneWord wordAsked
@@ -67,10 +72,14 @@ pub byte-form : (b : ℕ) → b < 256 → lineOf (73 ∷ 32 ∷ byteDigits b) �
 unfolding lineOf shortAsked oneByte byteAsked
 byte-form b h = rw (byte-back b h, lt-ltb b 256 h)
 
--- `D`, `R`, `S`, `T`, `Z`
+-- `D`, `K`, `R`, `S`, `T`, `Z`
 pub deadline-form : lineOf (68 ∷ []) ≡ asking deadline [] []
 unfolding lineOf shortAsked bareAsked
 deadline-form = refl
+
+pub taken-form : lineOf (75 ∷ []) ≡ asking askTaken [] []
+unfolding lineOf shortAsked bareAsked
+taken-form = refl
 
 pub read-form : lineOf (82 ∷ []) ≡ asking dataOut [] []
 unfolding lineOf shortAsked bareAsked

@@ -9,9 +9,9 @@ use Rattle.blocks.specs.declared.Store.{Store}
 use Rattle.blocks.specs.declared.Store.the-variants.{Priority, Ordinary}
 use Rattle.items.specs.declared.Items.{Items}
 use Rattle.items.specs.declared.Items.the-variants.{Good, Bad}
-use Rattle.lines.specs.Letters.{letterP, letterD, letterB, letterC, letterW, letterR, letterS, letterA, letterI, letterT, letterZ, smallP, smallO}
+use Rattle.lines.specs.Letters.{letterP, letterD, letterB, letterC, letterW, letterR, letterS, letterA, letterI, letterT, letterO, letterK, letterZ, smallP, smallO}
 use Rattle.lines.specs.declared.Line.{Line}
-use Rattle.lines.specs.declared.Line.the-variants.{Packet, Deadline, Put, Command, Data, Read, Status, Samples, Byte, Timeout, Power, Other}
+use Rattle.lines.specs.declared.Line.the-variants.{Packet, Deadline, Put, Command, Data, Read, Status, Samples, Byte, Timeout, Out, Taken, Power, Other}
 use Rattle.items.specs.Characters.{space}
 use Rattle.items.specs.Text.{ItemsRead, bytesIn, wordsIn, byteItem, wordItem}
 
@@ -27,6 +27,8 @@ pub data Asked : Type 0 where
   samples : ℕ → List ℕ → Asked
   askByte : ℕ → Asked
   askTimeout : Asked
+  askOut : List ℕ → Asked
+  askTaken : Asked
   power : Asked
   other : Asked
 
@@ -61,6 +63,13 @@ packing r = asking (wholly r packet) (r .values) []
 unfoldable pub packetIn : List ℕ → Asking
 packetIn t = cond (eqb (getD t 0 0) letterP) (packing (bytesIn (drop 1 t))) unasked
 
+-- `O` bytes
+abbrev pub handing : ItemsRead → Asking
+handing r = asking (wholly r askOut) (r .values) []
+
+unfoldable pub outIn : List ℕ → Asking
+outIn t = handing (bytesIn (drop 1 t))
+
 -- `B p` bytes, `B o` bytes
 abbrev pub isPut : ℕ → List ℕ → Bool
 isPut c t = eqb (getD t 1 0) space && eqb (getD t 2 0) c
@@ -83,15 +92,16 @@ samplesIn t =
     cond (ltb (oneByte (take 3 (drop 1 t))) 256) (sampling (oneByte (take 3 (drop 1 t))) (wordsIn (drop 4 t)))
     unasked
 
--- the letters with nothing behind them: `D`, `R`, `S`, `T`, `Z`
+-- the letters with nothing behind them: `D`, `K`, `R`, `S`, `T`, `Z`
 unfoldable pub bareAsked : ℕ → Asked
 bareAsked c =
     cond (eqb c letterD) deadline
+    (cond (eqb c letterK) askTaken
     (cond (eqb c letterR) dataOut
     (cond (eqb c letterS) status
     (cond (eqb c letterT) askTimeout
     (cond (eqb c letterZ) power
-    other))))
+    other)))))
 
 -- `C` word, `W` word
 unfoldable pub wordAsked : ℕ → ℕ → Asked
@@ -113,8 +123,9 @@ unfoldable pub lineOf : List ℕ → Asking
 lineOf t =
     cond (eqb (getD t 0 0) letterP) (packetIn t)
     (cond (eqb (getD t 0 0) letterB) (putIn t)
+    (cond (eqb (getD t 0 0) letterO) (outIn t)
     (cond (eqb (getD t 0 0) letterA) (samplesIn t)
-    (asking (shortAsked (getD t 0 0) (drop 1 t)) [] [])))
+    (asking (shortAsked (getD t 0 0) (drop 1 t)) [] []))))
 
 -- how the code says it: a run of bytes or words by its count, since the values lie in lent memory
 unfoldable pub sayLine : Asked → Line
@@ -128,6 +139,8 @@ sayLine status = Status
 sayLine (samples k ws) = Samples k (length ws)
 sayLine (askByte b) = Byte b
 sayLine askTimeout = Timeout
+sayLine (askOut bs) = Out (length bs)
+sayLine askTaken = Taken
 sayLine power = Power
 sayLine other = Other
 

@@ -35,6 +35,12 @@ letterT = 84
 abbrev pub letterZ : ℕ
 letterZ = 90
 
+abbrev pub letterO : ℕ
+letterO = 79
+
+abbrev pub letterK : ℕ
+letterK = 75
+
 abbrev pub smallP : ℕ
 smallP = 112
 

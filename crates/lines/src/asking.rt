@@ -10,7 +10,7 @@ ghost use mathlib.Core.Path.{_≡_};
 ghost use Prim.Native.Nat.{_*_, _≤_};
 ghost use lib.ListN.{length};
 ghost use lib.Seq.{sets};
-ghost use Rattle.lines.specs.Asked.{oneByte, oneWord, packetIn, putIn, samplesIn, bareAsked, wordAsked, byteAsked, shortAsked, lineOf, sayLine, counted};
+ghost use Rattle.lines.specs.Asked.{oneByte, oneWord, packetIn, outIn, putIn, samplesIn, bareAsked, wordAsked, byteAsked, shortAsked, lineOf, sayLine, counted};
 
 // Exactly one byte; 256 where the text is none.
 pub fn one_byte(text: &[u8]) -> u16
@@ -54,6 +54,24 @@ fn packet_of(items: Items) -> Line
 {
     match items {
         Items::Good(n) => Line::Packet(n),
+        Items::Bad => Line::Other,
+    }
+}
+
+// `O` and bytes.
+fn out_line(line: &[u8], bytes: &mut [u8]) -> Line
+    requires { ⌜ (1 ≤ length (now line)) × (length (now line) ≤ 3 * length (now bytes)) ⌝ }
+    ensures { λ r. ⌜ r ≡ sayLine (outIn (now (line .entry)) .asked) ⌝ }
+    ensures { λ _. ⌜ now (bytes .exit) ≡ sets (now (bytes .entry)) 0 (outIn (now (line .entry)) .bytes) ⌝ }
+{
+    out_of(bytes_in(&line[1..], bytes))
+}
+
+fn out_of(items: Items) -> Line
+    ensures { λ r. ⌜ r ≡ counted items Line.Out ⌝ }
+{
+    match items {
+        Items::Good(n) => Line::Out(n),
         Items::Bad => Line::Other,
     }
 }
@@ -119,6 +137,9 @@ fn bare(letter: u8) -> Line
 {
     if letter == b'D' {
         return Line::Deadline;
+    }
+    if letter == b'K' {
+        return Line::Taken;
     }
     if letter == b'R' {
         return Line::Read;
@@ -193,6 +214,9 @@ pub fn read_line(line: &[u8], bytes: &mut [u8], words: &mut [u16]) -> Line
     }
     if letter == b'B' {
         return put_line(line, bytes);
+    }
+    if letter == b'O' {
+        return out_line(line, bytes);
     }
     if letter == b'A' {
         return samples_line(line, words);

@@ -23,6 +23,8 @@ pub enum Line {
     Samples(u8, usize),
     Byte(u8),
     Timeout,
+    Out(usize),
+    Taken,
     Power,
     Other,
 }

@@ -1,8 +1,10 @@
 // The pod's calls, of all its ports: each promises its definition in `rules`, whatever arrives.
+pub use camera_side::packet_out;
 pub use camera_side::pipe_byte;
 pub use camera_side::pipe_timeout;
 pub use camera_side::put;
 pub use camera_side::samples;
+pub use camera_side::taken;
 pub use packet_port::deadline;
 pub use packet_port::packet;
 pub use packet_port::power_on;

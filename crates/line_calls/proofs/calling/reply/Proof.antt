@@ -7,8 +7,8 @@ use Rattle.tables.specs.Port.{desk}
 use Rattle.rules.specs.Refusals.{answerSaid}
 use Rattle.line_calls.specs.Calls.{heardLine}
 use Rattle.line_calls.specs.Memory.{memory, lentIn}
-use Rattle.line_calls.proofs.Steps.{answered-as, by-other, by-deadline, by-power, by-put, by-packet, by-samples, by-byte, by-timeout, by-command, by-data, by-read, by-status}
-use Rattle.line_calls.proofs.Asks.{heard-as, packet-asked, put-asked, samples-asked}
+use Rattle.line_calls.proofs.Steps.{answered-as, by-other, by-deadline, by-power, by-put, by-packet, by-samples, by-byte, by-timeout, by-out, by-taken, by-command, by-data, by-read, by-status}
+use Rattle.line_calls.proofs.Asks.{heard-as, packet-asked, out-asked, put-asked, samples-asked}
 use borrow.Author.Needs.{needs}
 use Rattle.line_calls.proofs.calling.reply.Statement.{statement}
 use Rattle.line_calls.proofs.calling.reply.Tie as tie
@@ -123,20 +123,40 @@ returns-11 c =
 returns-12 : tie.Need-returns-12
 unfolding heardLine
 returns-12 c =
+    let a = c .before .before .before .before .before .before .before .before .before .before .before .before .before .before .before .before .before .before .args in
+    let m = memory (now (a .room)) (now (a .priority)) (now (a .ordinary)) (now (a .five)) (now (a .six)) (now (a .seven)) (now (a .load)) in
+    let r = c .before .before .before .before .packet-out in
+    let t = c .before .before .passed3 .ensures in
+    answered-as (a .pod) m _ (c .before .before .passed3 .result) (now (a .out)) _ (a .at) (out-asked (now (a .bytes)) (now (a .words)) (c .before .before .before .before .before .before .before .line7 .given .1) (c .before .before .before .before .before .front4 .ensures .0))
+    (by-out (a .pod) m (c .before .before .passed3 .result) (now (a .out)) _ (a .at) (r .result) (t .0) _ (r .ensures) (t .1))
+
+returns-13 : tie.Need-returns-13
+unfolding heardLine
+returns-13 c =
+    let a = c .before .before .before .before .before .before .before .before .before .before .before .before .before .before .before .before .args in
+    let m = memory (now (a .room)) (now (a .priority)) (now (a .ordinary)) (now (a .five)) (now (a .six)) (now (a .seven)) (now (a .load)) in
+    let r = c .before .before .before .before .taken in
+    let t = c .before .before .passed4 .ensures in
+    answered-as (a .pod) m _ (c .before .before .passed4 .result) (now (a .out)) _ (a .at) (heard-as (now (a .bytes)) (now (a .words)) (c .before .before .before .before .before .enum-told7 .given .1))
+    (by-taken (a .pod) m (c .before .before .passed4 .result) (now (a .out)) _ (a .at) (r .result) (t .0) (r .ensures) (t .1))
+
+returns-14 : tie.Need-returns-14
+unfolding heardLine
+returns-14 c =
     let a = c .before .before .before .before .before .before .before .before .before .before .before .before .before .before .before .before .before .before .before .before .before .before .before .before .before .args in
     let m = memory (now (a .room)) (now (a .priority)) (now (a .ordinary)) (now (a .five)) (now (a .six)) (now (a .seven)) (now (a .load)) in
     let r = c .before .before .before .before .before .before .before .before .before .before .power-on in
     let t = c .before .before .said4 .ensures in
-    answered-as (a .pod) m _ (c .before .before .said4 .result) (now (a .out)) _ (a .at) (heard-as (now (a .bytes)) (now (a .words)) (c .before .before .before .before .before .before .before .before .before .before .before .before .before .before .enum-told7 .given .1))
+    answered-as (a .pod) m _ (c .before .before .said4 .result) (now (a .out)) _ (a .at) (heard-as (now (a .bytes)) (now (a .words)) (c .before .before .before .before .before .before .before .before .before .before .before .before .before .before .enum-told8 .given .1))
     (by-power (a .pod) m (c .before .before .said4 .result) (now (a .out)) _ (a .at) (r .result) _ _ _ (r .ensures) (t .0) (t .1))
 
-returns-13 : tie.Need-returns-13
+returns-15 : tie.Need-returns-15
 unfolding heardLine answerSaid
-returns-13 c =
+returns-15 c =
     let a = c .before .before .before .before .before .before .before .before .before .before .before .before .before .before .before .args in
     let m = memory (now (a .room)) (now (a .priority)) (now (a .ordinary)) (now (a .five)) (now (a .six)) (now (a .seven)) (now (a .load)) in
     let t = c .before .before .said5 .ensures in
-    answered-as (a .pod) m _ (c .before .before .said5 .result) (now (a .out)) _ (a .at) (heard-as (now (a .bytes)) (now (a .words)) (c .before .before .before .before .enum-told8 .given .1))
+    answered-as (a .pod) m _ (c .before .before .said5 .result) (now (a .out)) _ (a .at) (heard-as (now (a .bytes)) (now (a .words)) (c .before .before .before .before .enum-told9 .given .1))
     (by-other (a .pod) m (c .before .before .said5 .result) (now (a .out)) _ (a .at) (t .0) (t .1))
 
 pub reply-spec : {M : Type 1} → statement M
@@ -165,6 +185,10 @@ reply-spec =
     (λ c κs. c .before .before .before .before .before .before .before .before .before .before .before .before .before .before .pre)
     (λ c. search needs) (λ c κs. tt)
     (λ c κs. c .before .before .before .before .before .before .before .before .before .before .before .before .before .pre)
+    (λ c. search needs) (λ c κs. tt) (λ c κs. tt)
+    (λ c κs. c .before .before .before .before .before .before .before .before .before .before .before .before .before .before .before .pre)
+    (λ c. search needs) (λ c κs. tt)
+    (λ c κs. c .before .before .before .before .before .before .before .before .before .before .before .before .before .pre)
     (λ c. search needs) (λ c κs. tt)
     (λ c κs. c .before .before .before .before .before .before .before .before .before .before .before .before .before .before .before .before .before .before .before .before .before .before .pre)
     (λ c. search needs) (λ c κs. c .before .before .before .before .before .before .before .before .before .before .before .before .pre)
@@ -181,8 +205,9 @@ reply-spec =
     (λ c. c .before .before .before .before .before .before .before .six3 .given)
     (λ c. c .before .before .before .before .before .seven3 .given) (λ c. c .before .out6 .given) returns-6 (λ c. refl) (λ c. refl)
     (λ c. refl) (λ c. c .before .out7 .given) returns-7 (λ c. c .before .out8 .given) returns-8 (λ c. c .before .out9 .given) returns-9
-    (λ c. c .before .out10 .given) returns-10 (λ c. c .before .out11 .given) returns-11
+    (λ c. c .before .out10 .given) returns-10 (λ c. c .before .out11 .given) returns-11 (λ c. c .before .out12 .given) returns-12
+    (λ c. c .before .out13 .given) returns-13
     (λ c. c .before .before .before .before .before .before .before .before .before .five4 .given)
     (λ c. c .before .before .before .before .before .before .before .six4 .given)
-    (λ c. c .before .before .before .before .before .seven4 .given) (λ c. c .before .out12 .given) returns-12 (λ c. c .before .out13 .given)
-    returns-13)
+    (λ c. c .before .before .before .before .before .seven4 .given) (λ c. c .before .out14 .given) returns-14 (λ c. c .before .out15 .given)
+    returns-15)
