@@ -7,6 +7,8 @@ use mathlib.Core.List.{List, [], _∷_, _++_, append-assoc}
 use lib.ListN.{length}
 use Rattle.rows.proofs.Bool.{by-test}
 use Rattle.hex.specs.Digits.{wordDigits}
+use Rattle.crc.specs.Crc.{crcOf}
+use Rattle.pipe.specs.Output.{heldOut}
 use Rattle.items.proofs.Inked.{Inked, inked-both, word-inked}
 use Rattle.lines.specs.Cut.{before}
 use Rattle.lines.proofs.OneLine.{ended, bare-one}
@@ -16,9 +18,9 @@ use Rattle.line_calls.specs.declared.Sizes.{Sizes}
 use Rattle.lab_sets.specs.declared.Change.{Change}
 use Rattle.lab_sets.specs.declared.Change.the-variants.{Nothing, Cell, Value, Exchange, Address, Transfer, Thing}
 use Rattle.lab_lines.specs.Asked.{changeIn}
-use Rattle.decimals.specs.Printing.{spelled}
+use Rattle.decimals.specs.Printing.{spelled, naturals}
 use Rattle.decimals.proofs.Spell.{spelled-inked}
-use Rattle.lab_shows.specs.Shown.{frontNumbers, backNumbers, spelledWords, shownChecks, shownText}
+use Rattle.lab_shows.specs.Shown.{frontNumbers, backNumbers, spelledWords, shownChecks, outNumbers, shownOutput, shownText}
 use Rattle.lab_calls.specs.Own.{isShow, letterOf, Leaves, asks, shows, ownOf}
 
 words-inked : (ws : List ℕ) → Inked (spelledWords ws)
@@ -27,14 +29,20 @@ words-inked [] = tt
 words-inked (w ∷ ws) = (omega arith, inked-both (wordDigits w) (spelledWords ws) (word-inked w) (words-inked ws))
 
 shown-one : (p : Pod) (l : Lent) → suc (before (shownText p l)) ≡ length (shownText p l)
-unfolding shownText
+unfolding shownText shownOutput
 shown-one p l =
     let n = spelled (frontNumbers p ++ backNumbers p) in
     let w = spelledWords (shownChecks p l) in
-    let e : 86 ∷ (n ++ (w ++ (10 ∷ []))) ≡ (86 ∷ (n ++ w)) ++ (10 ∷ []) = ap (λ (t : List ℕ). 86 ∷ t) (sym (append-assoc n w (10 ∷ []))) in
-    ap (λ (t : List ℕ). suc (before t)) e
-    ∙ ended (86 ∷ (n ++ w)) (omega arith, inked-both n w (spelled-inked (frontNumbers p ++ backNumbers p)) (words-inked (shownChecks p l)))
-    ∙ sym (ap length e)
+    let o = spelled (naturals (outNumbers p)) in
+    let k = spelledWords (crcOf (heldOut (p .pipe .output)) ∷ []) in
+    let e : 86 ∷ (n ++ (w ++ (o ++ (k ++ (10 ∷ []))))) ≡ (86 ∷ (n ++ (w ++ (o ++ k)))) ++ (10 ∷ []) =
+    ap (λ (t : List ℕ). 86 ∷ t)
+    (ap (λ (t : List ℕ). n ++ (w ++ t)) (sym (append-assoc o k (10 ∷ [])))
+    ∙ ap (λ (t : List ℕ). n ++ t) (sym (append-assoc w (o ++ k) (10 ∷ [])))
+    ∙ sym (append-assoc n (w ++ (o ++ k)) (10 ∷ []))) in
+    let behind = inked-both o k (spelled-inked (naturals (outNumbers p))) (words-inked _) in
+    let inked = inked-both n (w ++ (o ++ k)) (spelled-inked (frontNumbers p ++ backNumbers p)) (inked-both w (o ++ k) (words-inked (shownChecks p l)) behind) in
+    ap (λ (t : List ℕ). suc (before t)) e ∙ ended (86 ∷ (n ++ (w ++ (o ++ k)))) (omega arith, inked) ∙ sym (ap length e)
 
 letter-inked : (c : Change) → 10 < letterOf c
 unfolding letterOf

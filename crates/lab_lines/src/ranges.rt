@@ -65,6 +65,8 @@ pub fn cell_most(cell: Cell) -> u64
         Cell::Waiting(_) => 0xFF,
         Cell::Gathered => 8,
         Cell::Timeouts => 0xFF,
+        Cell::Out => 9,
+        Cell::Outtimeouts => 0xFF,
     }
 }
 

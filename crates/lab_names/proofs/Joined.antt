@@ -37,7 +37,7 @@ abbrev pub spelled : ℕ → List ℕ → List ℕ
 spelled i all = take (i * 14 + 14 - i * 14) (drop (i * 14) all)
 
 -- .. is the name's text
-pub text-here : (all : List ℕ) (i : ℕ) → all ≡ textsOf names → i < 53 → spelled i all ≡ getD names i noName .text
+pub text-here : (all : List ℕ) (i : ℕ) → all ≡ textsOf names → i < 55 → spelled i all ≡ getD names i noName .text
 unfolding ofWidth names stateNames writtenNames portNames valueNames otherNames
 text-here all i e h =
     let w : i * 14 + 14 - i * 14 ≡ 14 = omega arith in

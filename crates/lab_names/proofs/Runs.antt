@@ -46,11 +46,11 @@ mark-at i h k =
     ap (λ (m : ℕ). cell (Written m)) e ∙ by-place (λ (m : ℕ). cell (Written m)) 10 12 i refl h k
 
 -- the parameters
-pub value-at : (i : ℕ) → 32 ≤ i → i < 44 → Value (i - 31) ≡ getD names i noName .part
+pub value-at : (i : ℕ) → 34 ≤ i → i < 46 → Value (i - 33) ≡ getD names i noName .part
 unfolding counted names stateNames writtenNames portNames valueNames otherNames
 value-at i h k =
-    let e : i - 31 ≡ 1 + (i - 32) = omega arith in
-    ap Value e ∙ by-place Value 32 12 i refl h k
+    let e : i - 33 ≡ 1 + (i - 34) = omega arith in
+    ap Value e ∙ by-place Value 34 12 i refl h k
 
 -- of the first places none, so the last one
 abbrev Missed : ℕ → ℕ → Type 0

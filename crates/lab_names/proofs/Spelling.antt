@@ -63,6 +63,6 @@ pub part-end : (t : List ℕ) (ns : List Name) (i : ℕ) → length ns ≤ i →
 unfolding partIn
 part-end t ns i h = rw (drop-of-length-le ns {i = i} h)
 
-pub names-length : length names ≡ 53
+pub names-length : length names ≡ 55
 unfolding names stateNames writtenNames portNames valueNames otherNames
 names-length = refl

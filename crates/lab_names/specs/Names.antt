@@ -11,7 +11,7 @@ use Rattle.items.specs.Characters.{space}
 use Rattle.blocks.specs.declared.Store.the-variants.{Priority, Ordinary}
 use Rattle.orders.specs.declared.Table.the-variants.{Five, Six, Seven}
 use Rattle.lab_sets.specs.declared.Field.the-variants.{Mode, Flags, Seconds, Milliseconds, Limit, Remaining, Poll}
-use Rattle.lab_sets.specs.declared.Cell.the-variants.{Initialised, Field as field, Written, Error, Place, Oldest, Waiting, Gathered, Timeouts}
+use Rattle.lab_sets.specs.declared.Cell.the-variants.{Initialised, Field as field, Written, Error, Place, Oldest, Waiting, Gathered, Timeouts, Out, Outtimeouts}
 use Rattle.lab_sets.specs.declared.Thing.the-variants.{Room, Store as store, Table as table}
 use Rattle.lab_names.specs.declared.Part.{Part}
 use Rattle.lab_names.specs.declared.Part.the-variants.{Unknown, Cell as cell, Value, Exchange, Address, Transfer, Thing as thing}
@@ -82,6 +82,8 @@ portNames =
     ∷ named "X waiting1" (cell (Waiting Ordinary))
     ∷ named "X gathered" (cell Gathered)
     ∷ named "X timeouts" (cell Timeouts)
+    ∷ named "X out" (cell Out)
+    ∷ named "X outtimeouts" (cell Outtimeouts)
     ∷ []
 
 -- the parameters

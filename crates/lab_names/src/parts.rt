@@ -30,7 +30,7 @@ fn field_at(i: usize) -> Field
 
 // The words, the stores and the pipe.
 fn port_at(i: usize) -> Cell
-    requires { ⌜ i < 10 ⌝ }
+    requires { ⌜ i < 12 ⌝ }
     ensures { λ r. ⌜ Part.Cell r ≡ getD names (i + 22) noName .part ⌝ }
 {
     match i {
@@ -43,14 +43,16 @@ fn port_at(i: usize) -> Cell
         6 => Cell::Waiting(Store::Priority),
         7 => Cell::Waiting(Store::Ordinary),
         8 => Cell::Gathered,
-        _ => Cell::Timeouts,
+        9 => Cell::Timeouts,
+        10 => Cell::Out,
+        _ => Cell::Outtimeouts,
     }
 }
 
 // The lent things.
 fn thing_at(i: usize) -> Thing
     requires { ⌜ i < 6 ⌝ }
-    ensures { λ r. ⌜ Part.Thing r ≡ getD names (i + 47) noName .part ⌝ }
+    ensures { λ r. ⌜ Part.Thing r ≡ getD names (i + 49) noName .part ⌝ }
 {
     match i {
         0 => Thing::Room,
@@ -64,18 +66,18 @@ fn thing_at(i: usize) -> Thing
 
 // All of them; the marks and the parameters have their ids.
 pub fn part_at(i: usize) -> Part
-    requires { ⌜ i < 53 ⌝ }
+    requires { ⌜ i < 55 ⌝ }
     ensures { λ r. ⌜ r ≡ getD names i noName .part ⌝ }
 {
     match i {
         0 => Part::Cell(Cell::Initialised),
         1..=9 => Part::Cell(Cell::Field(field_at(i - 1))),
         10..=21 => Part::Cell(Cell::Written((i - 9) as u8)),
-        22..=31 => Part::Cell(port_at(i - 22)),
-        32..=43 => Part::Value((i - 31) as u8),
-        44 => Part::Exchange,
-        45 => Part::Address,
-        46 => Part::Transfer,
-        _ => Part::Thing(thing_at(i - 47)),
+        22..=33 => Part::Cell(port_at(i - 22)),
+        34..=45 => Part::Value((i - 33) as u8),
+        46 => Part::Exchange,
+        47 => Part::Address,
+        48 => Part::Transfer,
+        _ => Part::Thing(thing_at(i - 49)),
     }
 }

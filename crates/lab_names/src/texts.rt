@@ -2,7 +2,7 @@
 ghost use mathlib.Core.Path.{_≡_};
 ghost use Rattle.lab_names.specs.Names.{names, textsOf};
 
-const TEXTS: [u8; 742] = *b"\
+const TEXTS: [u8; 770] = *b"\
     X initialised \
     X mode        \
     X flags       \
@@ -35,6 +35,8 @@ const TEXTS: [u8; 742] = *b"\
     X waiting1    \
     X gathered    \
     X timeouts    \
+    X out         \
+    X outtimeouts \
     X param1      \
     X param2      \
     X param3      \
@@ -57,7 +59,7 @@ const TEXTS: [u8; 742] = *b"\
     L 6           \
     L 7           ";
 
-pub fn texts() -> [u8; 742]
+pub fn texts() -> [u8; 770]
     ensures { λ r. ⌜ r ≡ textsOf names ⌝ }
 {
     TEXTS

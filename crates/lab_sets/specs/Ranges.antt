@@ -8,7 +8,7 @@ use Rattle.blocks.specs.declared.Store.the-variants.{Priority, Ordinary}
 use Rattle.lab_sets.specs.declared.Field.{Field}
 use Rattle.lab_sets.specs.declared.Field.the-variants.{Mode, Flags, Seconds, Milliseconds, Limit, Remaining, Poll}
 use Rattle.lab_sets.specs.declared.Cell.{Cell}
-use Rattle.lab_sets.specs.declared.Cell.the-variants.{Initialised, Field as field, Written, Error, Place, Oldest, Waiting, Gathered, Timeouts}
+use Rattle.lab_sets.specs.declared.Cell.the-variants.{Initialised, Field as field, Written, Error, Place, Oldest, Waiting, Gathered, Timeouts, Out, Outtimeouts}
 use Rattle.lab_sets.specs.declared.Change.{Change}
 use Rattle.lab_sets.specs.declared.Change.the-variants.{Nothing, Cell as cell, Value, Exchange, Address, Transfer, Thing as thing}
 
@@ -30,7 +30,8 @@ fieldMost (Limit s) = storeMost s
 fieldMost (Remaining s) = storeMost s
 fieldMost Poll = most 16
 
--- "`initialised`, `error`, `written` 0 or 1; `mode`, `timeouts`, places, oldest, waiting .. 0 to 255; `gathered` 0 to 8"
+-- "`initialised`, `error`, `written` 0 or 1; `mode`, `timeouts`, places, oldest, waiting .. 0 to 255; `gathered` 0 to 8"; request No. 3: `out` 0 to 9,
+-- `outtimeouts` 0 to 255
 abbrev pub cellMost : Cell → ℕ
 cellMost Initialised = 1
 cellMost (field f) = fieldMost f
@@ -41,6 +42,8 @@ cellMost (Oldest s) = 255
 cellMost (Waiting s) = 255
 cellMost Gathered = 8
 cellMost Timeouts = 255
+cellMost Out = 9
+cellMost Outtimeouts = 255
 
 -- whether what a cell becomes is in its range: all else that is asked has a type of its own
 unfoldable pub inRange : Change → Bool

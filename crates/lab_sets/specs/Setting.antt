@@ -18,7 +18,7 @@ use Rattle.rules.specs.State.{withInitialised, withFields, withParams, withExch
 use Rattle.lab_sets.specs.declared.Field.{Field}
 use Rattle.lab_sets.specs.declared.Field.the-variants.{Mode, Flags, Seconds, Milliseconds, Limit, Remaining, Poll}
 use Rattle.lab_sets.specs.declared.Cell.{Cell}
-use Rattle.lab_sets.specs.declared.Cell.the-variants.{Initialised, Field as field, Written, Error, Place, Oldest, Waiting, Gathered, Timeouts}
+use Rattle.lab_sets.specs.declared.Cell.the-variants.{Initialised, Field as field, Written, Error, Place, Oldest, Waiting, Gathered, Timeouts, Out, Outtimeouts}
 use Rattle.lab_sets.specs.declared.Change.{Change}
 use Rattle.lab_sets.specs.declared.Change.the-variants.{Nothing, Cell as cell, Value, Exchange, Address, Transfer, Thing as thing}
 use Rattle.lab_sets.specs.declared.Changed.{Changed}
@@ -53,10 +53,17 @@ markSet id b q = cond (isId id) (record { values = q .values; written = set (q .
 
 -- "`gathered` n, n bytes of 0"
 abbrev pub gathering : ℕ → Pipe → Pipe
-gathering n i = record { input = record { bytes = replicate 8 0; gathered = n; timeouts = i .input .timeouts } }
+gathering n i = record { input = record { bytes = replicate 8 0; gathered = n; timeouts = i .input .timeouts }; output = i .output }
 
 abbrev pub counting : ℕ → Pipe → Pipe
-counting n i = record { input = record { bytes = i .input .bytes; gathered = i .input .gathered; timeouts = n } }
+counting n i = record { input = record { bytes = i .input .bytes; gathered = i .input .gathered; timeouts = n }; output = i .output }
+
+-- request No. 3: `out` n, n bytes of 0 in hand
+abbrev pub handing : ℕ → Pipe → Pipe
+handing n i = record { input = i .input; output = record { bytes = replicate 8 0; hand = n; timeouts = i .output .timeouts } }
+
+abbrev pub dropping : ℕ → Pipe → Pipe
+dropping n i = record { input = i .input; output = record { bytes = i .output .bytes; hand = i .output .hand; timeouts = n } }
 
 abbrev pub ring : ℕ → ℕ → Ring
 ring oldest waiting = record { oldest = oldest; waiting = waiting }
@@ -71,6 +78,8 @@ cellSet (Oldest s) n p = withRing s (ring n (ringOf s p .waiting)) p
 cellSet (Waiting s) n p = withRing s (ring (ringOf s p .oldest) n) p
 cellSet Gathered n p = withPipe (gathering n (p .pipe)) p
 cellSet Timeouts n p = withPipe (counting n (p .pipe)) p
+cellSet Out n p = withPipe (handing n (p .pipe)) p
+cellSet Outtimeouts n p = withPipe (dropping n (p .pipe)) p
 
 -- what a line of X sets; a line of L sets nothing
 unfoldable pub partSet : Change → Pod → Pod

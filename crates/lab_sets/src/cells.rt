@@ -12,6 +12,7 @@ use commands::with_pipe;
 use commands::with_ring;
 use commands::with_words;
 use pipe::Input;
+use pipe::Output;
 use pipe::Pipe;
 use rules::Pod;
 use tables::Table;
@@ -23,7 +24,7 @@ ghost use Rattle.tables.specs.Tables.{withReadPlace};
 ghost use Rattle.tables.specs.Port.{withError, withPlaces};
 ghost use Rattle.rules.specs.State.{withInitialised, withFields, withRing, withWords, withPipe, ringOf};
 ghost use Rattle.lab_sets.specs.Ranges.{fieldMost, cellMost};
-ghost use Rattle.lab_sets.specs.Setting.{fieldSet, ring, gathering, counting, cellSet};
+ghost use Rattle.lab_sets.specs.Setting.{fieldSet, ring, gathering, counting, handing, dropping, cellSet};
 
 fn fields_set(pod: Pod, field: Field, n: u64) -> Pod
     requires { ⌜ n ≤ fieldMost field ⌝ }
@@ -83,12 +84,14 @@ fn gathered_set(pipe: Pipe, n: usize) -> Pipe
     ensures { λ r. ⌜ r ≡ gathering n pipe ⌝ }
 {
     let input = pipe.input;
+    let output = pipe.output;
     Pipe {
         input: Input {
             bytes: [0; 8],
             gathered: n,
             timeouts: input.timeouts,
         },
+        output,
     }
 }
 
@@ -96,8 +99,34 @@ fn timeouts_set(pipe: Pipe, n: u8) -> Pipe
     ensures { λ r. ⌜ r ≡ counting n pipe ⌝ }
 {
     let mut input = pipe.input;
+    let output = pipe.output;
     input.timeouts = n;
-    Pipe { input }
+    Pipe { input, output }
+}
+
+// So many bytes of 0 in hand.
+fn out_set(pipe: Pipe, n: u8) -> Pipe
+    ensures { λ r. ⌜ r ≡ handing n pipe ⌝ }
+{
+    let input = pipe.input;
+    let output = pipe.output;
+    Pipe {
+        input,
+        output: Output {
+            bytes: [0; 8],
+            hand: n,
+            timeouts: output.timeouts,
+        },
+    }
+}
+
+fn outtimeouts_set(pipe: Pipe, n: u8) -> Pipe
+    ensures { λ r. ⌜ r ≡ dropping n pipe ⌝ }
+{
+    let input = pipe.input;
+    let mut output = pipe.output;
+    output.timeouts = n;
+    Pipe { input, output }
 }
 
 pub fn cell_set(pod: Pod, cell: Cell, n: u64) -> Pod
@@ -117,5 +146,7 @@ pub fn cell_set(pod: Pod, cell: Cell, n: u64) -> Pod
         Cell::Waiting(store) => waiting_set(pod, store, n as usize),
         Cell::Gathered => with_pipe(pod, gathered_set(pipe, n as usize)),
         Cell::Timeouts => with_pipe(pod, timeouts_set(pipe, n as u8)),
+        Cell::Out => with_pipe(pod, out_set(pipe, n as u8)),
+        Cell::Outtimeouts => with_pipe(pod, outtimeouts_set(pipe, n as u8)),
     }
 }

@@ -33,6 +33,8 @@ pub enum Cell {
     Waiting(Store),
     Gathered,
     Timeouts,
+    Out,
+    Outtimeouts,
 }
 
 // What is lent to a call.

@@ -17,6 +17,7 @@ use Rattle.tables.specs.declared.Given.{Given}
 use Rattle.tables.specs.declared.Given.the-variants.{Nowhere, At}
 use Rattle.tables.specs.declared.Places.{Places}
 use Rattle.tables.specs.Tables.{three}
+use Rattle.pipe.specs.Output.{heldOut}
 use Rattle.rules.specs.declared.Pod.{Pod}
 use Rattle.rules.specs.State.{Lent}
 use Rattle.rules.specs.Obey.{exchangeCode}
@@ -102,6 +103,15 @@ unfoldable pub spelledWords : List ℕ → List ℕ
 spelledWords [] = []
 spelledWords (w ∷ ws) = space ∷ (wordDigits w ++ spelledWords ws)
 
+-- request No. 3, behind the rest: how many bytes are in hand, output timeouts, and the CRC of the bytes in hand, of 8 at most; and the
+-- line's end
+abbrev pub outNumbers : Pod → List ℕ
+outNumbers p = p .pipe .output .hand ∷ p .pipe .output .timeouts ∷ []
+
+unfoldable pub shownOutput : Pod → List ℕ
+shownOutput p = spelled (naturals (outNumbers p)) ++ (spelledWords (crcOf (heldOut (p .pipe .output)) ∷ []) ++ (newline ∷ []))
+
 -- "`V` and these, each after one space"
 unfoldable pub shownText : Pod → Lent → List ℕ
-shownText p l = letterV ∷ (spelled (frontNumbers p ++ backNumbers p) ++ (spelledWords (shownChecks p l) ++ (newline ∷ [])))
+shownText p l =
+    letterV ∷ (spelled (frontNumbers p ++ backNumbers p) ++ (spelledWords (shownChecks p l) ++ shownOutput p))

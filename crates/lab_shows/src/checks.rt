@@ -4,11 +4,13 @@ use items::front;
 use items::front_words;
 use numbers::put_two;
 use pipe::Input;
+use pipe::Output;
 use tables::Transfer;
 ghost use mathlib.Core.Path.{_≡_};
 ghost use Prim.Native.Nat.{_≤_};
 ghost use lib.ListN.{length, take};
 ghost use Rattle.crc.specs.Crc.{crcOf};
+ghost use Rattle.pipe.specs.Output.{heldOut};
 ghost use Rattle.lab_shows.specs.Shown.{wordBytes, along};
 
 // The CRC of words, high byte first.
@@ -52,4 +54,15 @@ pub fn gathered_crc(input: Input) -> u16
 {
     let bytes = input.bytes;
     crc_of(front(&bytes, input.gathered))
+}
+
+// Where more than 8 are in hand, of all 8.
+pub fn hand_crc(output: Output) -> u16
+    ensures { λ r. ⌜ r ≡ crcOf (heldOut output) ⌝ }
+{
+    let bytes = output.bytes;
+    if output.hand > 8 {
+        return crc_of(&bytes);
+    }
+    crc_of(&bytes[8 - output.hand as usize..])
 }

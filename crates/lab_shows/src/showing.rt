@@ -1,5 +1,6 @@
 // The line, whole.
 use crate::checks::gathered_crc;
+use crate::checks::hand_crc;
 use crate::checks::load_crc;
 use crate::checks::words_crc;
 use crate::parts::first_numbers;
@@ -19,7 +20,7 @@ ghost use lib.ListN.{length};
 ghost use Rattle.tables.specs.Tables.{three};
 ghost use Rattle.rules.specs.State.{Lent};
 ghost use Rattle.decimals.specs.Printing.{spelled, Written};
-ghost use Rattle.lab_shows.specs.Shown.{frontNumbers, backNumbers, shownChecks, shownText, lentOf};
+ghost use Rattle.lab_shows.specs.Shown.{frontNumbers, backNumbers, shownChecks, shownOutput, shownText, lentOf};
 
 // The numbers of the state up to the marks of the parameters ..
 fn put_front(out: &mut [u8], at: usize, pod: Pod) -> usize
@@ -48,6 +49,19 @@ fn put_back(out: &mut [u8], at: usize, pod: Pod) -> usize
     let a = put_run(out, at, &port);
     let b = put_address(out, a, given);
     put_run(out, b, &last)
+}
+
+// .. and the output half of the pipe, behind the checks, with the line's end.
+fn put_output(out: &mut [u8], at: usize, pod: Pod) -> usize
+    requires { ⌜ at + 48 ≤ length (now out) ⌝ }
+    ensures { λ r. ⌜ Written (shownOutput pod) 48 at r (now (out .entry)) (now (out .exit)) ⌝ }
+{
+    let output = pod.pipe.output;
+    let check = [hand_crc(output)];
+    let numbers = [output.hand as u64, output.timeouts as u64];
+    let a = put_run(out, at, &numbers);
+    let b = put_words(out, a, &check);
+    append(out, b, &[b'\n'])
 }
 
 fn all_checks(
@@ -90,13 +104,13 @@ pub fn show(
     at: usize,
 ) -> usize
     requires { ⌜ (length (now five) ≤ 128) × (length (now six) ≤ 128) × (length (now seven) ≤ 128) ⌝ }
-    requires { ⌜ at + 1121 ≤ length (now out) ⌝ }
-    ensures { λ r. ⌜ Written (shownText pod (lentOf (now (priority .entry)) (now (ordinary .entry)) (now (five .entry)) (now (six .entry)) (now (seven .entry)) (now (load .entry)))) 1121 at r (now (out .entry)) (now (out .exit)) ⌝ }
+    requires { ⌜ at + 1168 ≤ length (now out) ⌝ }
+    ensures { λ r. ⌜ Written (shownText pod (lentOf (now (priority .entry)) (now (ordinary .entry)) (now (five .entry)) (now (six .entry)) (now (seven .entry)) (now (load .entry)))) 1168 at r (now (out .entry)) (now (out .exit)) ⌝ }
 {
     let checks = all_checks(pod, priority, ordinary, five, six, seven, load);
     let first = append(out, at, &[b'V']);
     let front = put_front(out, first, pod);
     let back = put_back(out, front, pod);
     let last = put_words(out, back, &checks);
-    append(out, last, &[b'\n'])
+    put_output(out, last, pod)
 }

@@ -2,7 +2,7 @@
 -- Assumes nothing.
 use Prim.Native.Nat.{ℕ, _*_, _≤_}
 use native.Mathlib.Omega.{arith}
-use mathlib.Core.Path.{_≡_, refl, ap}
+use mathlib.Core.Path.{_≡_, refl, ap, _∙_}
 use mathlib.Core.Bool.{_||_}
 use mathlib.Core.List.{List}
 use lib.Dec.{ltb, eqb}
@@ -12,23 +12,31 @@ use Rattle.rows.proofs.Bool.{by-test}
 use Rattle.blocks.specs.declared.Store.{Store}
 use Rattle.blocks.specs.declared.Store.the-variants.{Priority, Ordinary}
 use Rattle.items.specs.Text.{ItemsRead, bytesIn, wordsIn}
-use Rattle.lines.specs.Letters.{letterP, letterD, letterB, letterC, letterW, letterR, letterS, letterA, letterI, letterT, letterZ, smallP, smallO}
-use Rattle.lines.specs.Asked.{Asked, Asking, packet, put, samples, other, packing, putting, sampling, isPut, oneByte, packetIn, putIn, samplesIn, bareAsked, wordAsked, byteAsked, shortAsked, lineOf, sayLine}
+use Rattle.lines.specs.Letters.{letterP, letterD, letterB, letterC, letterW, letterR, letterS, letterA, letterI, letterT, letterO, letterK, letterZ, smallP, smallO}
+use Rattle.lines.specs.Asked.{Asked, Asking, packet, put, samples, askOut, other, wholly, sampling, isPut, oneByte, packetIn, outIn, putIn, samplesIn, bareAsked, wordAsked, byteAsked, shortAsked, lineOf, sayLine}
 use Rattle.lines.proofs.Stored.{stored, bytes-most, words-most}
 use Rattle.line_calls.specs.Calls.{heardLine}
 
--- a run of bytes, whole or not
-packing-heard : (r : ItemsRead) (bs ws : List ℕ) → length (r .values) ≤ length bs
-    → heardLine (sayLine (packing r .asked)) (sets bs 0 (r .values)) ws ≡ packing r .asked
+-- a run of bytes, whole or not, whatever it is asked for
+bytes-heard : (f : List ℕ → Asked) → ((vs bs ws : List ℕ) → heardLine (sayLine (f vs)) bs ws ≡ f (take (length vs) bs))
+    → (r : ItemsRead) (bs ws : List ℕ) → length (r .values) ≤ length bs
+    → heardLine (sayLine (wholly r f)) (sets bs 0 (r .values)) ws ≡ wholly r f
 unfolding heardLine sayLine
-packing-heard r bs ws h =
-    by-test (λ (a : Asked). heardLine (sayLine a) (sets bs 0 (r .values)) ws ≡ a) (r .whole) (λ _. ap packet (stored (r .values) bs h)) (λ _. refl)
+bytes-heard f says r bs ws h =
+    by-test (λ (a : Asked). heardLine (sayLine a) (sets bs 0 (r .values)) ws ≡ a) (r .whole)
+    (λ _. says (r .values) (sets bs 0 (r .values)) ws ∙ ap f (stored (r .values) bs h)) (λ _. refl)
 
-putting-heard : (s : Store) (r : ItemsRead) (bs ws : List ℕ) → length (r .values) ≤ length bs
-    → heardLine (sayLine (putting s r .asked)) (sets bs 0 (r .values)) ws ≡ putting s r .asked
+packet-says : (vs bs ws : List ℕ) → heardLine (sayLine (packet vs)) bs ws ≡ packet (take (length vs) bs)
 unfolding heardLine sayLine
-putting-heard s r bs ws h =
-    by-test (λ (a : Asked). heardLine (sayLine a) (sets bs 0 (r .values)) ws ≡ a) (r .whole) (λ _. ap (put s) (stored (r .values) bs h)) (λ _. refl)
+packet-says vs bs ws = refl
+
+put-says : (s : Store) (vs bs ws : List ℕ) → heardLine (sayLine (put s vs)) bs ws ≡ put s (take (length vs) bs)
+unfolding heardLine sayLine
+put-says s vs bs ws = refl
+
+out-says : (vs bs ws : List ℕ) → heardLine (sayLine (askOut vs)) bs ws ≡ askOut (take (length vs) bs)
+unfolding heardLine sayLine
+out-says vs bs ws = refl
 
 sampling-heard : (k : ℕ) (r : ItemsRead) (bs ws : List ℕ) → length (r .values) ≤ length ws
     → heardLine (sayLine (sampling k r .asked)) bs (sets ws 0 (r .values)) ≡ sampling k r .asked
@@ -53,10 +61,11 @@ module _ (bs ws : List ℕ) where
   unfolding heardLine sayLine bareAsked
   bare-heard c =
       by-test Again (eqb c letterD) (λ _. refl)
+      (λ _. by-test Again (eqb c letterK) (λ _. refl)
       (λ _. by-test Again (eqb c letterR) (λ _. refl)
       (λ _. by-test Again (eqb c letterS) (λ _. refl)
       (λ _. by-test Again (eqb c letterT) (λ _. refl)
-      (λ _. by-test Again (eqb c letterZ) (λ _. refl) (λ _. refl)))))
+      (λ _. by-test Again (eqb c letterZ) (λ _. refl) (λ _. refl))))))
 
   other-heard : Again other
   unfolding heardLine sayLine
@@ -79,7 +88,7 @@ module _ (t bs : List ℕ) (hb : length t ≤ 3 * length bs) where
   unfolding packetIn
   packet-heard ws =
       by-test (λ (k : Asking). heardLine (sayLine (k .asked)) (sets bs 0 (k .bytes)) ws ≡ k .asked) (eqb (getD t 0 0) letterP)
-      (λ _. packing-heard (bytesIn (drop 1 t)) bs ws (fits-bytes 1)) (λ _. other-heard bs ws)
+      (λ _. bytes-heard packet packet-says (bytesIn (drop 1 t)) bs ws (fits-bytes 1)) (λ _. other-heard bs ws)
 
   module _ (ws : List ℕ) (hw : length t ≤ 5 * length ws) where
     abbrev Heard : Asking → Type 0
@@ -88,8 +97,8 @@ module _ (t bs : List ℕ) (hb : length t ≤ 3 * length bs) where
     put-heard : Heard (putIn t)
     unfolding putIn
     put-heard =
-        by-test Heard (isPut smallP t) (λ _. putting-heard Priority (bytesIn (drop 3 t)) bs ws (fits-bytes 3))
-        (λ _. by-test Heard (isPut smallO t) (λ _. putting-heard Ordinary (bytesIn (drop 3 t)) bs ws (fits-bytes 3)) (λ _. other-heard bs ws))
+        by-test Heard (isPut smallP t) (λ _. bytes-heard (put Priority) (put-says Priority) (bytesIn (drop 3 t)) bs ws (fits-bytes 3))
+        (λ _. by-test Heard (isPut smallO t) (λ _. bytes-heard (put Ordinary) (put-says Ordinary) (bytesIn (drop 3 t)) bs ws (fits-bytes 3)) (λ _. other-heard bs ws))
 
     samples-heard : Heard (samplesIn t)
     unfolding samplesIn
@@ -99,8 +108,9 @@ module _ (t bs : List ℕ) (hb : length t ≤ 3 * length bs) where
         (λ _. other-heard bs ws)
 
     pub line-heard : Heard (lineOf t)
-    unfolding lineOf
+    unfolding lineOf outIn
     line-heard =
         by-test Heard (eqb (getD t 0 0) letterP) (λ _. packet-heard (sets ws 0 (packetIn t .words)))
         (λ _. by-test Heard (eqb (getD t 0 0) letterB) (λ _. put-heard)
-        (λ _. by-test Heard (eqb (getD t 0 0) letterA) (λ _. samples-heard) (λ _. short-heard bs ws (getD t 0 0) (drop 1 t))))
+        (λ _. by-test Heard (eqb (getD t 0 0) letterO) (λ _. bytes-heard askOut out-says (bytesIn (drop 1 t)) bs ws (fits-bytes 1))
+        (λ _. by-test Heard (eqb (getD t 0 0) letterA) (λ _. samples-heard) (λ _. short-heard bs ws (getD t 0 0) (drop 1 t)))))

@@ -15,7 +15,7 @@ use Rattle.rules.specs.declared.Pod.{Pod}
 use Rattle.rules.specs.State.{Lent}
 use Rattle.rules.specs.World.{Call}
 use Rattle.lines.specs.declared.Line.{Line}
-use Rattle.lines.specs.declared.Line.the-variants.{Packet, Deadline, Put, Command, Data, Read, Status, Samples, Byte, Timeout, Power, Other}
+use Rattle.lines.specs.declared.Line.the-variants.{Packet, Deadline, Put, Command, Data, Read, Status, Samples, Byte, Timeout, Out, Taken, Power, Other}
 use Rattle.lines.specs.Asked.{Asked}
 use Rattle.lines.proofs.Line as line
 use Rattle.line_calls.specs.declared.Sizes.{Sizes}
@@ -33,7 +33,7 @@ use Rattle.line_answers.specs.Lines.{askingOf, sizesIf, sizesAfter}
 use Rattle.line_answers.specs.Turns.{Within, TextAnswered, own, call}
 
 -- a line that is a call
-pub sizes-again : (l : Line) (s : Sizes) (bs ws : List ℕ) → OneOf (0 ∷ 1 ∷ 2 ∷ 3 ∷ 4 ∷ 5 ∷ 6 ∷ 7 ∷ 8 ∷ 9 ∷ 10 ∷ []) (tagOf line.the-type l)
+pub sizes-again : (l : Line) (s : Sizes) (bs ws : List ℕ) → OneOf (0 ∷ 1 ∷ 2 ∷ 3 ∷ 4 ∷ 5 ∷ 6 ∷ 7 ∷ 8 ∷ 9 ∷ 10 ∷ 11 ∷ 12 ∷ []) (tagOf line.the-type l)
     → sizesAfter (heardLine l bs ws) s ≡ rightSizes
 unfolding sizesAfter heardLine callOf
 sizes-again (Packet n) s bs ws k = refl
@@ -46,8 +46,10 @@ sizes-again Status s bs ws k = refl
 sizes-again (Samples x n) s bs ws k = refl
 sizes-again (Byte b) s bs ws k = refl
 sizes-again Timeout s bs ws k = refl
+sizes-again (Out n) s bs ws k = refl
+sizes-again Taken s bs ws k = refl
 sizes-again Power s bs ws k = refl
-sizes-again Other s bs ws k = absurd (miss (0 ∷ 1 ∷ 2 ∷ 3 ∷ 4 ∷ 5 ∷ 6 ∷ 7 ∷ 8 ∷ 9 ∷ 10 ∷ []) 11 tt k)
+sizes-again Other s bs ws k = absurd (miss (0 ∷ 1 ∷ 2 ∷ 3 ∷ 4 ∷ 5 ∷ 6 ∷ 7 ∷ 8 ∷ 9 ∷ 10 ∷ 11 ∷ 12 ∷ []) 13 tt k)
 
 -- the right sizes are within the arrays
 pub within-right : Within rightSizes

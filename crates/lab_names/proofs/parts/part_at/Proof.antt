@@ -47,7 +47,7 @@ value c = value-at (c .before .before .before .before .before .args .i) (search 
 thing : tie.Need-returns-9
 thing c =
     let a = c .before .before .before .before .before .before .args in
-    let e : a .i - 47 + 47 ≡ a .i = omega arith in
+    let e : a .i - 49 + 49 ≡ a .i = omega arith in
     rw e at (c .thing-at .ensures)
 
 pub part-at-spec : {M : Type 1} → statement M

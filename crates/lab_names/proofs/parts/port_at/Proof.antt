@@ -18,4 +18,6 @@ port-at-spec =
     (λ c. rw (c .match .keys7))
     (λ c. rw (c .match .keys8))
     (λ c. rw (c .match .keys9))
-    (λ c. rw (last-is 9 (c .before .args .i) (c .match .rest) (c .before .pre))))
+    (λ c. rw (c .match .keys10))
+    (λ c. rw (c .match .keys11))
+    (λ c. rw (last-is 11 (c .before .args .i) (c .match .rest) (c .before .pre))))
