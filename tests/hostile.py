@@ -128,6 +128,12 @@ def packet_line(data):
     return b"P " + data.hex(" ").upper().encode() + b"\n"
 
 
+INITIALISE = packet_line(sealed(bytes.fromhex("9001000000000000000010001000000080000000800001")))
+PIPE_LINES = [b"O 01 02 03 04 05 06 07 08\n"] * 3 + [b"K\n"] * 9 + [b"T\n", b"I 5A\n"] * 2 + [
+    b"O FF FE FD FC FB FA F9\n", b"O" + b" 00" * 9 + b"\n", b"O\n", b"O \n", b"O 0\n", b"K 00\n", b"k\n", b"P 9F 01 05 FB\n",
+    b"A 1F" + b" 03FF" * 128 + b"\n", INITIALISE, INITIALISE]
+
+
 def random_text(seed, letters, size):
     """Characters of an alphabet at random."""
     return bytes(random.Random(seed).choices(letters, k=size))
@@ -141,10 +147,10 @@ def inputs():
     yield "two lines, the last without newline", b"P 91\nP 9F 01 05 FB"
     yield "a letter without newline", b"x"
     yield "random bytes", random.Random(1).randbytes(1000000)
-    yield "random letters", random_text(2, b"PDBCWRSAITZpo 0123456789ABCDEF\n\n\n", 600000)
+    yield "random letters", random_text(2, b"PDBCWRSAITOKZpo 0123456789ABCDEF\n\n\n", 600000)
     yield "random letters of an aircraft", random_text(5, b"QYNP 0123459F-\n\n\n", 300000)
     yield "an aircraft's lines", b"Q 96\nP -\nN\nY 96\nQ 94 0\nP 96\nQ 93 9 -9\nP 93 01 7E 41 9D\n" * 10000
-    yield "random near letters", random_text(3, b"PDRSTZIC 0189AF\n\n\n\n\r\0abz", 600000)
+    yield "random near letters", random_text(3, b"PDRSTOKZIC 0189AF\n\n\n\n\r\0abz", 600000)
     yield "NULs", b"\0" * 1000000
     yield "NULs in lines", b"P 91\0\n\0P 91\nP\0\n\0\n\0\0\nP 91\n" * 1000
     yield "lower case", b"p 91\nP 9f 01 05 fb\nP 9F 01 05 fB\nd\nP 9F 01 05 FB\n" * 1000
@@ -153,9 +159,9 @@ def inputs():
     yield "every first byte in turn", b"".join(b"P %02X\n" % (n % 256) for n in range(200000))
     yield "lines about the edges of buffers", buffer_edges()
     yield "packets about the longest", longest_packets()
-    yield "initialise, then anything", packet_line(sealed(
-        bytes.fromhex("9001000000000000000010001000000080000000800001"))) + random_text(
-            4, b"PRSTIDZ 0159AF\n\n\n\n", 300000)
+    yield "initialise, then anything", INITIALISE + random_text(4, b"PRSTIKODZ 0159AF\n\n\n\n", 300000)
+    yield "initialise, then packets out and what cuts them short", INITIALISE + b"".join(
+        random.Random(6).choices(PIPE_LINES, k=30000))
 
 
 def buffer_edges():
@@ -170,11 +176,12 @@ def buffer_edges():
 
 
 def longest_packets():
-    """65,534 to 65,537 bytes with a right CRC, long blocks and sample sets, and junk about as
-    long as the longest line."""
+    """65,534 to 65,537 bytes with a right CRC and as packets out, long blocks and sample sets, and
+    junk about as long as the longest line."""
     parts = []
     for size in (65534, 65535, 65536, 65537):
         parts.append(packet_line(sealed(b"\x97\x01" + bytes(size - 4))) + b"P 91\n")
+        parts.append(b"O" + b" 00" * size + b"\nP 91\n")
     parts.append(b"B p" + b" 00" * 60000 + b"\nP 91\n")
     parts.append(b"A 00" + b" 0000" * 30000 + b"\nP 91\n")
     for length in range(LONGEST - 2, LONGEST + 5):

@@ -41,8 +41,10 @@ outer_\name:
     counted data_in, 8
     counted data_out, 9
     counted status_word, 10
-    counted empty, 11
-    counted known, 12
+    counted packet_out, 11
+    counted taken, 12
+    counted empty, 13
+    counted known, 14
 
     .type inner_empty, %function
 inner_empty:

@@ -27,7 +27,11 @@ CALLS = (
     "data_in",
     "data_out",
     "status_word",
+    "packet_out",
+    "taken",
 )
+# those that `repeats` makes: not power on, and none of the pipe's output half
+REPEATED = CALLS[1:-2]
 AIRFRAME = ("build", "read")
 KEEPER = """#!/bin/sh
 cp module.bc '{keep}.bc' && printf '%s\\n' "$@" >'{keep}.words' && exec '{clang}' "$@"
@@ -173,8 +177,8 @@ def defined(call):
     return re.compile(rf'^define internal (.*@"{crate}::(?:\w+::)*{call}"\(.*\)) (#\d+ {{)$', re.M)
 
 
-def external(ir, calls=CALLS[1:]):
-    """With the calls as firmware makes them: those of the pod, but for power on, which `repeats` doesn't make, or others."""
+def external(ir, calls=REPEATED):
+    """With the calls as firmware makes them: those of the pod that `repeats` makes, or others."""
     for call in calls:
         ir, found = defined(call).subn(r"define \1 noinline \2", ir)
         if found != 1:

@@ -108,7 +108,7 @@ CODES = (b"", b"9", b"9f", b"0x91", b"091", b"91 ", b" 91", b"91\r", b"9 1", b"-
 FORMS = (b"|Q|Q |q 91|Q91|Q  91|QQ 91|Y|Y |y 91|Y91|Y  91|YY 91|Y 91  00|Y 91 0|Y 91 000|Y 91 00 00|Y 91 7e|Y 91 -|"
          b"Y 9100|N |N 1|NN|n|N -|N\r| N|P |p|P-|P -|P  -|P - |P --|P -1|P 91 -|P - 91|P -\r|PP|P91|P 9|P 911|P 91 |"
          b" P 91|P\t91|P  91|P 9G|P 9f|P 0x91|P 91,01|P 91\r|P 91 1|\x00|P\x00|\xff|R|R -|R done|? |?|#|A|Z|D|X|V|"
-         b"\r|\xef\xbb\xbfQ 91|Q\xa091|Q 91#|Q 91 ;|Q 91 -|Q 95 0|Q 9F 9F").split(b"|")
+         b"O|O 00|K|\r|\xef\xbb\xbfQ 91|Q\xa091|Q 91#|Q 91 ;|Q 91 -|Q 95 0|Q 9F 9F").split(b"|")
 
 
 def forms():

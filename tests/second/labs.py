@@ -13,7 +13,7 @@ from ports.bounds import broken
 from ports.lab import PARTS, lab_line
 from sessions import Full
 
-WEIGHTS = {lab.sound: 6, lab.receipt: 2, lab.words_on: 3, lab.reads: 2, lab.pipe: 1, lab.edge: 2, lab.wild: 2,
+WEIGHTS = {lab.sound: 6, lab.receipt: 2, lab.words_on: 3, lab.reads: 2, lab.pipe: 2, lab.edge: 2, lab.wild: 2,
            lab.lent: 4, lab.call: 3, lab.out_of_range: 2, lab.malformed: 1, packets.initialise: 1}
 LENGTH = 60
 TURNS = 3       # each session takes so many of the pairs of a bound and a call, and of the names, in turn

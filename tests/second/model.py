@@ -9,6 +9,7 @@ from ports.blocks import Blocks
 from ports.commands import Commands
 from ports.frames import Frames
 from ports.lines import console_line, session_line
+from ports.output import Output
 from ports.packets import Packets
 from ports.params import Parameters
 from ports.refusal import Rows
@@ -18,7 +19,7 @@ from ports.words import Words
 __all__ = ["Pod", "console_line", "session_line"]
 
 
-class Pod(Rows, Packets, Commands, Parameters, Blocks, Words, Frames):
+class Pod(Rows, Packets, Commands, Parameters, Blocks, Words, Frames, Output):
     """The pod with its two stores and three tables, one method for each call."""
 
     def __init__(self):
@@ -30,6 +31,7 @@ class Pod(Rows, Packets, Commands, Parameters, Blocks, Words, Frames):
         """The power on call."""
         self.rows("power on")
         self.forget_transfer("power")
+        self.count_forgotten("power")
         self.power_on()
 
     def power_on(self):
@@ -51,6 +53,7 @@ class Pod(Rows, Packets, Commands, Parameters, Blocks, Words, Frames):
         self.parameters_to_starts()
         self.words_fresh()
         self.pipe_fresh()
+        self.output_fresh()
 
 
 if __name__ == "__main__":

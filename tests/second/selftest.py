@@ -1,4 +1,4 @@
-"""Document 01's shown examples and the lines of `lab`, asserted of the model."""
+"""Document 01's shown examples, request No. 3 and the lines of `lab`, asserted of the model."""
 
 from model import Pod, console_line, session_line
 from ports.lab import lab_line
@@ -71,6 +71,65 @@ def shown_frames():
     assert console_line(pod, b"T") == b"T -"
 
 
+def first_bytes(pod):
+    """Bytes 0 to 7 of the frames of samples that are all 0."""
+    return console_line(pod, b"A 00" + b" 0000" * 128)[2:25].decode()
+
+
+def handed_over():
+    """'an eight-byte packet from the aircraft is handed to the camera one byte at a time, each
+    byte after the last was taken'."""
+    pod = initialised()
+    for _ in range(2):
+        talk(pod, "K => K -\n T => T -\n O 5A 5B 5C 5D 5E 5F 60 61 => O 5A")
+        for byte in range(0x5B, 0x62):
+            assert first_bytes(pod) == "00 00 00 00 00 84 00 00"
+            talk(pod, "O 01 02 03 04 05 06 07 08 => O !21\n K => K %02X" % byte)
+        assert first_bytes(pod) == "00 00 00 00 00 84 00 00"
+        talk(pod, "K => K -")
+        assert first_bytes(pod) == "00 00 00 00 00 04 00 00"
+
+
+def dropped():
+    """'If the camera stops taking them, the rest of that packet is dropped and an output timeout
+    is counted, 15 meaning 15 or more.'"""
+    pod = initialised()
+    for count in range(1, 18):
+        talk(pod, "O 11 22 33 44 55 66 77 88 => O 11\n" + "K => K 22\n" * (count % 2))
+        talk(pod, "T => T -\n T => T -\n K => K -")
+        assert first_bytes(pod) == "%02X 00 00 00 00 04 00 00" % min(count, 15)
+    # one call, and neither half sees the other
+    for count in range(1, 18):
+        talk(pod, "I AB => I -\n O 00 00 00 00 00 00 00 FF => O 00")
+        assert first_bytes(pod) == "%XF 00 00 80 00 84 00 00" % min(count - 1, 15)
+        talk(pod, "T => T AB")
+        assert first_bytes(pod) == "%XF 00 00 00 00 04 00 00" % min(count, 15)
+    talk(pod, "O 01 02 03 04 05 06 07 08 => O 01\n" + "I 77 => I -\n" * 7)
+    talk(pod, "I 78 => I 77 77 77 77 77 77 77 78\n K => K 02")
+
+
+def output_refused():
+    """'22 before 6, 21 last'; Shutdown keeps this half, and frames show it."""
+    pod = Pod()
+    whole, short, long = "O 01 02 03 04 05 06 07 08", "O 01 02 03 04 05 06 07", "O 01 02 03 04 05 06 07 08 09"
+    talk(pod, "%s => O !6\n %s => O !22\n %s => O !22\n O => O !22\n K => K !6" % (whole, short, long))
+    pod = initialised()
+    talk(pod, "%s => O !22\n O => O !22\n %s => O 01\n T => T -\n %s => O 01\n K => K 02" % (short, whole, whole))
+    talk(pod, "%s => O !21\n %s => O !22\n P 9F 01 05 FB => P 9F 01 7E 34 FC" % (whole, long))
+    talk(pod, "%s => O !6\n %s => O !22\n K => K !6\n T => T !6" % (whole, long))
+    assert first_bytes(pod) == "01 00 00 00 00 80 00 00"
+    pod.packet(sealed(b"\x90\x01" + FIELDS))
+    assert first_bytes(pod) == "00 00 00 00 00 04 00 00"
+    talk(pod, "K => K -\n O 08 07 06 05 04 03 02 01 => O 08\n Z => Z\n K => K !6")
+    assert first_bytes(pod) == "00 00 00 00 00 00 00 00"
+    for line in (b"O ", b"O 1", b"O 01 ", b"O  01", b"O 0g", b"O 0a", b"O01", b"o", b"K ", b"K 01", b"K -", b"k"):
+        assert console_line(pod, line) == b"?", line
+    for line in (b"O", b"O 01", b"K", b"T"):
+        assert session_line(pod, line) == b"?", line
+    longest = b"O" + b" 00" * 65535
+    assert console_line(pod, longest) == b"O !22" and console_line(pod, longest + b" 00") == b"?"
+
+
 def shown_session():
     """The four-line session."""
     pod = Pod()
@@ -125,17 +184,18 @@ def lab_shown():
                                     b"".join(bytes((i, 0)) for i in range(64)))))
     starts = "-2000 12000 950 1000 16 2000 0 0 0 0 0 0"
     pod = Pod()
-    talk(pod, "V => V 0 0 0 0 0 0 0 0 0 1000 %s %s 0 0 0 0 0 0 0 0 0 0 -1 0 0 0 0 0 0 FFFF FFFF %s" % (
+    talk(pod, "V => V 0 0 0 0 0 0 0 0 0 1000 %s %s 0 0 0 0 0 0 0 0 0 0 -1 0 0 0 0 0 0 FFFF FFFF %s 0 0 FFFF" % (
         starts, " ".join("0" * 12), memory), lab_line)
     sets = """initialised 1 mode 2 flags 3 seconds 4 milliseconds 5 limit0 6 remaining0 7 limit1 8 remaining1 9
         poll 10 param1 11 param2 12 param3 13 param4 14 param5 15 param6 16 param7 17 param8 18 param9 19 param10 20
         param11 21 param12 -22 written1 1 written4 1 written12 1 exchange 148 error 1 place5 26 place6 27 place7 28
-        address 29 oldest0 30 waiting0 31 oldest1 32 waiting1 33 gathered 8 timeouts 34""".split()
+        address 29 oldest0 30 waiting0 31 oldest1 32 waiting1 33 gathered 8 timeouts 34 out 9 outtimeouts 35""".split()
     for name, number in zip(sets[::2], sets[1::2]):
         talk(pod, "X %s %s => X" % (name, number), lab_line)
     talk(pod, "X transfer 6 1 23 24 25 => X", lab_line)
     talk(pod, "V => V 1 2 3 4 5 6 7 8 9 10 11 12 13 14 15 16 17 18 19 20 21 -22 1 0 0 1 0 0 0 0 0 0 0 1 148 1 "
-         "6 1 23 24 25 26 27 28 29 30 31 32 33 8 34 %s FFFF %s" % (by_bits(bytes(8)), memory), lab_line)
+         "6 1 23 24 25 26 27 28 29 30 31 32 33 8 34 %s FFFF %s 9 35 %s" % (by_bits(bytes(8)), memory, by_bits(bytes(8))),
+         lab_line)
 
 
 def lab_refused():
@@ -143,7 +203,7 @@ def lab_refused():
     state, and is refused by 2."""
     pod = Pod()
     talk(pod, "X mode 4 => X\n P => P !3\n D => D !3\n B p => B !3\n C 8000 => C !3\n W 0000 => W !3\n R => R !3\n"
-         "S => S !3\n A 00 => A !3\n I 00 => I !3\n T => T !3\n L 5 65 => L\n C 8000 => C !2\n C 8000 => C !3\n"
+         "S => S !3\n A 00 => A !3\n I 00 => I !3\n T => T !3\n O => O !3\n K => K !3\n L 5 65 => L\n C 8000 => C !2\n C 8000 => C !3\n"
          "Z => Z\n P => P -", lab_line)
     talk(pod, "L room 259 => L\n L 7 1088 => L\n L p 5121 => ?\n V 1 => ?\n X mode 256 => ?\n X mode 4 => X\n"
          "P => P !1\n P => P !3\n L room 259 => L\n S => S !3\n Z => Z\n P => P -\n L 6 0 => L\n Z => Z !2\n Z => Z\n"
@@ -169,7 +229,7 @@ def lab_memory():
     """The words of an open load, at most 64; the ring's first place behind its last; bytes that
     power keeps."""
     pod = Pod()
-    shown = lambda: lab_line(pod, b"V").decode().split()[-7:]
+    shown = lambda: lab_line(pod, b"V").decode().split()[-10:]
     talk(pod, "X initialised 1 => X\n X transfer 5 0 6 2 0 => X\n W 0103 => W", lab_line)
     assert shown()[1] == by_bits(b"\0\0\0\0\x01\x03")
     talk(pod, "X transfer 5 0 6 70 0 => X", lab_line)
@@ -179,12 +239,18 @@ def lab_memory():
     assert shown()[1:3] == ["FFFF", by_bits(b"\x5A" * 256 + bytes(15 * 256))]
     talk(pod, "X initialised 1 => X\n I 01 => I -\n X gathered 2 => X\n I 02 => I -", lab_line)
     assert shown()[0] == by_bits(b"\0\0\x02")
+    talk(pod, "X outtimeouts 3 => X\n O A1 A2 A3 A4 A5 A6 A7 A8 => O A1\n K => K A2", lab_line)
+    assert shown()[-3:] == ["7", "3", by_bits(bytes(range(0xA2, 0xA9)))]
+    talk(pod, "X out 10 => ?\n X out 2 => X\n K => K 00", lab_line)
+    assert shown()[-3:] == ["1", "3", by_bits(b"\0")]
+    talk(pod, "T => T 00 00 02", lab_line)
+    assert shown()[-3:] == ["0", "4", "FFFF"]
 
 
 def run():
     """All of them."""
-    for part in (shown_crc, shown_words, shown_acknowledgement, shown_frames, shown_session,
-                 drop_without_a_block, refused_lines, lab_shown, lab_refused, lab_read, lab_memory):
+    for part in (shown_crc, shown_words, shown_acknowledgement, shown_frames, handed_over, dropped, output_refused,
+                 shown_session, drop_without_a_block, refused_lines, lab_shown, lab_refused, lab_read, lab_memory):
         part()
     print("model: ok, the shown examples hold")
 

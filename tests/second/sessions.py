@@ -11,14 +11,14 @@ import sys
 import time
 
 from model import Pod, console_line
-from moves import bench, packets, words
+from moves import bench, output, packets, words
 from ports import labels
 
 # move: weight in a session of no special kind
 WEIGHTS = {
     packets.initialise: 2, packets.initialise_edge: 3, packets.update: 3, packets.update_edge: 3,
     packets.status: 6, bench.sleep: 1, packets.write: 10, packets.write_all_asked: 2,
-    packets.read: 6, packets.read_all: 0.7, packets.fetch: 16, packets.exchange: 4,
+    packets.read: 6, packets.read_all: 0.7, packets.fetch: 20, packets.exchange: 4,
     packets.acknowledge: 8, packets.acknowledge_near: 2, packets.damaged: 5,
     packets.wrong_length: 5, packets.short: 2, packets.second_byte: 3, packets.unknown: 3,
     packets.empty: 2, packets.any_bytes: 2, packets.any_command: 4,
@@ -28,6 +28,8 @@ WEIGHTS = {
     bench.fill_ordinary: 0, bench.full_asleep: 0.1, bench.drain: 2, bench.marked: 3, bench.samples: 3,
     bench.bad_samples: 3, bench.pipe_bytes: 5, bench.timeouts: 0.4, bench.timeout: 2,
     bench.one_pipe_byte: 2, bench.deadline: 3, bench.power: 0.4, bench.malformed: 8,
+    output.packet: 3, output.wrong: 2, output.taken: 4, output.hand_over: 2, output.stall: 2, output.both: 1,
+    output.timeouts: 0.4, output.sleep: 0.4, output.renewed: 0.4, output.in_exchange: 1,
 }
 
 # kind of session: (its share, the factor for each move that it changes)
@@ -42,9 +44,10 @@ KINDS = {
     "parameters": (8, {packets.write: 8, packets.write_all_asked: 8, packets.read_all: 5,
                        packets.update_edge: 3, packets.initialise_edge: 3}),
     "pipe": (5, {bench.pipe_bytes: 5, bench.timeouts: 20, bench.timeout: 4, bench.samples: 4,
-                 bench.bad_samples: 4}),
-    "asleep": (4, {bench.sleep: 12, bench.full_asleep: 10, words.stray: 3}),
-    "hires": (3, {packets.initialise: 8, bench.sleep: 8, bench.power: 4}),
+                 bench.bad_samples: 4, output.packet: 4, output.wrong: 4, output.taken: 5, output.hand_over: 5,
+                 output.stall: 5, output.both: 8, output.timeouts: 20, output.renewed: 5}),
+    "asleep": (4, {bench.sleep: 12, bench.full_asleep: 10, output.sleep: 10, words.stray: 3}),
+    "hires": (3, {packets.initialise: 8, bench.sleep: 8, bench.power: 4, output.sleep: 8, output.renewed: 8}),
 }
 
 INTERLUDES = (
@@ -53,7 +56,7 @@ INTERLUDES = (
     packets.unknown, packets.empty, packets.any_command, words.stop, words.starts,
     words.bad_command, words.bad_command, words.stray, words.stray, words.status_word, words.status_word,
     bench.put, bench.put_wrong, bench.samples, bench.bad_samples, bench.one_pipe_byte,
-    bench.timeout, bench.deadline, bench.power, bench.malformed,
+    bench.timeout, output.packet, output.wrong, output.taken, bench.deadline, bench.power, bench.malformed,
 )
 
 
@@ -98,7 +101,7 @@ class Session:
         if self.kind == "full":
             bench.fill_ordinary(self)
         if self.rng.random() < 0.005:
-            packets.huge(self)
+            self.rng.choice((packets.huge, output.huge))(self)
 
     def grow(self):
         """Say lines until all are said."""

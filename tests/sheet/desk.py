@@ -3,6 +3,7 @@ import subprocess
 
 import model
 from airframe.lines import Aircraft, aircraft_line
+from ports.lab import lab_line
 from ports.refusal import Refused
 from .pages import ROOT, Fault, crates
 
@@ -47,6 +48,8 @@ class Desk:
     def lab(self, where, pairs, alone=False):
         """A session of lab from power on, left out as long as there is no such program. One that shows the bytes of the
         stores, which power on keeps, is played alone."""
+        if not self.agreed(where, pairs, lab_line):
+            return
         if not self.has_lab:
             self.skipped += len(pairs)
         elif alone:

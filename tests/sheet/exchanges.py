@@ -46,7 +46,7 @@ class Exchanges(Part):
             "any other packet": [(asked(self.packets.packet(0x93, {"id": 3, "value": 0})), self.packets.error(0x93, 0x39))],
             "the deadline call": [("D", "D")],
             "an empty packet": [("P", "P -")],
-            "a call of another port": [("S", "S 0000")]}
+            "a call of another port": [("S", "S 0000"), ("O 01 02 03 04 05 06 07 08", "O 01"), ("K", "K -"), ("T", "T -")]}
         if table.column(0) != list(comes):
             table.rows[0].fault("what comes is not: %s" % "; ".join(comes))
         fetch = asked(self.packets.packet(0x95))

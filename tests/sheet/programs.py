@@ -17,7 +17,7 @@ from .state import GOOD
 ITEMS = re.compile(r"\$ printf '(.*)' \| \./run session\n((?:    .*\n)+)")
 
 # the parts of the state that lab sets to one number
-NAMES = "initialised mode flags seconds milliseconds poll error timeouts gathered".split()
+NAMES = "initialised mode flags seconds milliseconds poll error timeouts gathered out outtimeouts".split()
 NAMES += [part + store for store in "01" for part in ("limit", "remaining", "oldest", "waiting")]
 NAMES += [part + str(id) for part in ("param", "written") for id in range(1, 13)] + ["place5", "place6", "place7", "address"]
 
@@ -43,7 +43,7 @@ class Programs(Part):
             if not plain(row[1]).startswith(letter) or row[3][:len(row[0] + kind)] != row[0] + kind or (
                     kind != " and the " and row[3] != row[0] + kind):
                 row.fault("it begins with its letter, and prints as `%s` does" % told)
-            if re.findall(r"\d+", row[1]) != {"B": ["256", "256"], "A": ["128"]}.get(letter, []):
+            if re.findall(r"\d+", row[1]) != {"B": ["256", "256"], "A": ["128"], "O": ["8"]}.get(letter, []):
                 row.fault("the numbers of its line are others")
 
     def check_limits(self):

@@ -15,7 +15,7 @@ from .pages import ROOT, names, number
 
 BLOCK = spelled("", bytes(256))
 GOOD = {"D": "D", "B": "B p" + BLOCK, "C": "C 8000", "W": "W 0005", "R": "R", "S": "S", "A": "A 00" + " 0000" * 128,
-        "I": "I 44", "T": "T", "Z": "Z"}
+        "I": "I 44", "T": "T", "O": "O 01 02 03 04 05 06 07 08", "K": "K", "Z": "Z"}
 # thing: (its name in lab, a size that is wrong, the refusal)
 LENT = {"room": ("room", 259, "1"), "priority store": ("p", 4095, "2"), "ordinary store": ("o", 32769, "2"),
         "table 5": ("5", 63, "2"), "table 6": ("6", 129, "2"), "table 7": ("7", 65, "2")}
@@ -28,9 +28,11 @@ PARTS = {"limits": "limit", "remainings": "remaining", "open exchange": "exchang
          "place of the oldest block": "oldest",
          "parameters": "values", "marks of written parameters": "written", "table words": "tables", "read places": "places",
          "given address": "address", "open transfer": "transfer", "message error": "message_error",
-         "gathered bytes": "gathered", "input timeouts": "timeouts"}
+         "gathered bytes": "gathered", "input timeouts": "timeouts", "bytes in hand": "hand", "output timeouts": "output_timeouts"}
+# what a part's text says where it is not the part's name in lab
+SAID = {"timeouts": "input timeouts", "out": "in hand", "outtimeouts": "output timeouts"}
 # what the model keeps beside the state: the memory that is lent, at which sizes, and what its counts go by
-BESIDE = {"memory", "sizes", "late", "updated"}
+BESIDE = {"memory", "sizes", "late", "updated", "emptied"}
 
 
 def borrowed(function):
@@ -93,7 +95,7 @@ class State(Part):
         used = sorted({one for row in self.calls for one in row[4].split()}, key=int)
         if listed != used:
             self.refusals.rows[0].fault("the calls have the refusals %s" % " ".join(used))
-        for one, texts in {"1": ["260"], "4": ["256", "128"], "5": ["1,023", "31"]}.items():
+        for one, texts in {"1": ["260"], "4": ["256", "128"], "5": ["1,023", "31"], "22": ["8"]}.items():
             for text in texts:
                 if text not in self.refusals.rows[listed.index(one)][1]:
                     self.refusals.rows[listed.index(one)].fault("%s is not named" % text)
@@ -107,7 +109,7 @@ class State(Part):
         """The refusals whose condition can be made for a call, in its own order."""
         lent = any(LENT[one][2] == "2" for one in self.things(row) if one in LENT)
         can = {"1": "room" in self.things(row), "2": lent, "3": row[1] != "`power_on`", "4": row[2] in ("`B`", "`A`"),
-               "5": row[2] == "`A`", "6": row[2] != "`Z`", "7": row[2] == "`B`"}
+               "5": row[2] == "`A`", "22": row[2] == "`O`", "6": row[2] != "`Z`", "7": row[2] == "`B`", "21": row[2] == "`O`"}
         return [one for one, yes in can.items() if yes]
 
     def check_refused(self):
@@ -129,9 +131,13 @@ class State(Part):
             line = {"B": "B p 00", "A": "A 20 0000" if "5" in some else "A 00 0000"}[letter]
         elif "5" in some:
             line = "A 20" + " 0000" * 128
-        pairs = [self.packets.begin()] if "6" not in some or "7" in some else []
+        elif "22" in some:
+            line = "O 01 02 03 04 05 06 07"
+        pairs = [self.packets.begin()] if "6" not in some or set(some) & {"7", "21"} else []
         if "7" in some:
             pairs += [("B p" + BLOCK, "B")] * 16
+        if "21" in some:
+            pairs.append((GOOD["O"], "O 01"))
         if "6" in some and pairs:
             pairs.append((asked(self.packets.packet(0x9F)), self.packets.success(0x9F)))
         told = "%s !%s" % (letter, first) if first else self.answer(pairs, line)
@@ -173,6 +179,7 @@ class State(Part):
         for at, code in enumerate((0x95, 0x96)):
             bounds["oldest%d" % at], bounds["waiting%d" % at] = (0, CAPACITY[code] - 1), (0, CAPACITY[code])
         bounds.update(mode=field["mode"], poll=field["poll"], milliseconds=(0, 999), gathered=(0, 7), timeouts=(0, 15))
+        bounds.update(out=(0, 8), outtimeouts=(0, 15))
         bounds.update({"place%d" % which: (0, size) for which, size in SIZES.items()})
         bounds.update(flags=field["flags"], seconds=(0, 2 ** 32 - 1), limit0=(0, top["priority limit"]),
                       limit1=(0, top["memory limit"]), address=(0, 65535))
@@ -185,7 +192,7 @@ class State(Part):
             if (least, most) != bounds[name]:
                 row.fault("its bounds are %d and %d" % bounds[name])
             words = {"0": ["priority"], "1": ["ordinary", "memory"], **{str(table): ["table %d" % table] for table in SIZES}}
-            if name.rstrip("01567") not in row[0] or not any(word in row[0] for word in words.get(name[-1], [""])):
+            if SAID.get(name, name.rstrip("01567")) not in row[0] or not any(word in row[0] for word in words.get(name[-1], [""])):
                 row.fault("the name in lab is that of another part")
             for value, told in ((least, "D"), (most, "D"), (least - 1, "D !3"), (most + 1, "D !3")):
                 if ranges[name][0] <= value <= ranges[name][1] and name + str(value) != "address-1":
@@ -235,7 +242,8 @@ class State(Part):
         """A model's pod with nothing at its start."""
         pod = model.Pod()
         dropped = [line for code in (0x95, 0x96) for line in (asked(self.packets.packet(code)), asked(sealed(bytes([code, 0x01, 0x7E]))))]
-        lines = [asked(self.packets.packet(0x90, VALUES)), *["B p" + BLOCK] * 2, *["B o" + BLOCK] * 2, *dropped, "I 55", "T", "I 56",
+        lines = [asked(self.packets.packet(0x90, VALUES)), *["B p" + BLOCK] * 2, *["B o" + BLOCK] * 2, *dropped,
+                 GOOD["O"], "I 55", "T", GOOD["O"], "K", "I 56",
                  asked(self.packets.packet(0x93, {"id": 3, "value": 500})),
                  "C 0A04", "W 0005", "W 0000", "W 0001", "W 7777", "C CA04", "R", "R", "R", "R", "C 8201", "W 0009"]
         lines += ["C 0C04"] if transfer else ["C 0000"] if error else []

@@ -179,7 +179,7 @@ class Words(Part):
             "Shutdown while a transfer is open": ([begin] + load, [shut]),
             "an accepted Initialise": ([begin] + load, [begin]),
             "power on": ([begin] + load, silent("Z")),
-            "any other call": ([begin] + load, silent("D"))}
+            "any other call": ([begin] + load, silent("D") + [("O 01 02 03 04 05 06 07 08", "O 01"), ("K", "K 02"), ("T", "T -")])}
         if table.column(0) != list(comes):
             table.rows[0].fault("what comes is not: %s" % "; ".join(comes))
         for row in table:

@@ -71,17 +71,22 @@ def drain(s):
             s.say(put_line(s.rng, store))
 
 
+def open_exchange(s, code):
+    """A type 2 command that is answered: where it wants a block, with one waiting that may be sent."""
+    if code in CAPACITY and not s.pod.waiting[code]:
+        s.say(put_line(s.rng, code))
+    if code in CAPACITY and not s.pod.remaining[code]:
+        packets.send(s, b"\x92\x01" + packets.fields(s.rng, True))
+    packets.send(s, packets.bare(s.rng, code))
+
+
 def marked(s):
     """An acknowledgement marked 0x90, of either form: of an exchange that is open, of one that
     a deadline or an Update has closed, and of none."""
     rng = s.rng
     code = rng.choice(packets.TYPE_2 + (None,))
-    if code in CAPACITY and not s.pod.waiting[code]:
-        s.say(put_line(rng, code))
-    if code in CAPACITY and not s.pod.remaining[code]:
-        packets.send(s, b"\x92\x01" + packets.fields(rng, True))
     if code:
-        packets.send(s, packets.bare(rng, code))
+        open_exchange(s, code)
     late = rng.choice((None, None, deadline, packets.update))
     if late:
         late(s)
@@ -179,7 +184,7 @@ def look_asleep(s):
     rng = s.rng
     if rng.random() < 0.4:
         samples(s)
-    for line in rng.sample((b"R", b"W 0005", b"S", b"S", b"T", b"C 8000", b"D"), rng.randint(0, 3)):
+    for line in rng.sample((b"R", b"W 0005", b"S", b"S", b"T", b"K", b"C 8000", b"D"), rng.randint(0, 3)):
         s.say(line)
     if rng.random() < 0.3:
         packets.acknowledge(s)
@@ -191,7 +196,9 @@ FIXED = (b"", b" ", b"X", b"Q 00", b"?", b"p", b"d", b"z", b"P ", b"P-", b"P -",
          b"B pp", b"C", b"C ", b"C 800", b"C 80000", b"C 80 00", b"C 8000 ", b"C 8000 8000", b"C 0a04",
          b"W", b"W 1", b"W 00001", b"W  0001", b"W 0001 0002", b"R ", b"R 0000", b"RR", b"S 0000", b"S ",
          b"SS", b"A", b"A ", b"A 1", b"A 100", b"A 00 ", b"A 00 00", b"A 00 00000", b"A 0000", b"I", b"I ",
-         b"I 0", b"I 000", b"I 00 00", b"T 00", b"T ", b"TT", b"Z ", b"Z 0", b"ZZ", b"\x00", b"P\x00",
+         b"I 0", b"I 000", b"I 00 00", b"T 00", b"T ", b"TT", b"o", b"O ", b"O 0", b"O 000", b"O  00",
+         b"O00", b"OO", b"O -", b"O 00 ", b"O 5a", b"O 00 0G", b"O 00\r", b"k", b"K ", b"K 00", b"K -", b"KK",
+         b"K\r", b"Z ", b"Z 0", b"ZZ", b"\x00", b"P\x00",
          b"P \x0091", b"\xff", b"\xef\xbb\xbfP 91", b"P 91\r", b"\r", b"D\r", b"C 8000\r", b"P\xa091",
          b"P 91 \xb201", b"#", b"B p 0G", b"A 00 00G0")
 
@@ -213,7 +220,7 @@ def mangle(rng, line):
     if kind == 5:
         return b" " + line
     if kind == 6:
-        return bytes((rng.choice((b"EFGHJKLMNOQUVXYpdbcwrsaitz0")),)) + line[1:]
+        return bytes((rng.choice((b"EFGHJLMNQUVXYpdbcwrsaitokz0")),)) + line[1:]
     if kind == 7:
         return line[:at] + rng.choice((b"\x00", b"\t", b" ", b"g", b"\xff", b"\r", b"0")) + line[at:]
     return line.replace(b" ", b"", 1)

@@ -46,11 +46,12 @@ def parameters():
 
 def numbers():
     """'mode 0 to 3; poll 1 to 60,000; milliseconds 0 to 999', '0 to 7 bytes gathered; timeouts
-    0 to 15; each read place at most its table's size'."""
+    0 to 15; each read place at most its table's size', '0 to 8 bytes in hand, and output timeouts
+    0 to 15'."""
     for bound, name, inside, outside in (
             ("mode", "mode", 3, 4), ("poll 0", "poll", 1, 0), ("poll over 60000", "poll", 60000, 60001),
             ("milliseconds", "milliseconds", 999, 1000), ("gathered", "gathered", 7, 8),
-            ("timeouts", "timeouts", 15, 16)):
+            ("timeouts", "timeouts", 15, 16), ("in hand", "out", 8, 9), ("output timeouts", "outtimeouts", 15, 16)):
         yield Edge(bound, ["%s %d" % (name, inside)], ["%s %d" % (name, outside)])
     for table, size in SIZES.items():
         yield Edge("place %d" % table, ["place%d %d" % (table, size)], ["place%d %d" % (table, size + 1)])

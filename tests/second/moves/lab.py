@@ -6,7 +6,7 @@ from ports.params import ROWS
 from ports.refusal import RIGHT
 from ports.sizes import CAPACITY, ORDINARY, PRIORITY, SIZES
 
-from . import bench, packets, words
+from . import bench, output, packets, words
 from .edges import EDGES, lines
 
 GREATEST = (2 ** 16 - 1, 2 ** 32 - 1)
@@ -78,7 +78,8 @@ CALLS = {
     "command word": (words.stop, words.starts, words.bad_command, open_load, open_read, open_read, open_address),
     "data word in": (word_in,), "data word out": (word_out,), "status word": (words.status_word,),
     "samples": (bench.samples, bench.bad_samples), "pipe byte": (bench.one_pipe_byte,),
-    "pipe timeout": (bench.timeout,), "power on": (power,),
+    "pipe timeout": (bench.timeout,), "packet out": (output.packet, output.packet, output.wrong),
+    "taken": (output.taken,), "power on": (power,),
 }
 
 
@@ -125,7 +126,8 @@ def number(rng):
     name, values = rng.choice((
         ("mode", range(4)), ("flags", (0, 0xFFFF, rng.getrandbits(16))), ("seconds", (0, 2 ** 22, 2 ** 32 - 1)),
         ("milliseconds", (0, 999)), ("poll", (1, 1000, 60000)), ("error", (0, 1)), ("gathered", range(8)),
-        ("timeouts", (0, 1, 14, 15)), ("place%d" % table, (0, SIZES[table] - 1, SIZES[table], rng.randint(0, 60))),
+        ("timeouts", (0, 1, 14, 15)), ("out", range(9)), ("outtimeouts", (0, 1, 14, 15)),
+        ("place%d" % table, (0, SIZES[table] - 1, SIZES[table], rng.randint(0, 60))),
         ("address", (-1, 0, SIZES[table] - 1, SIZES[table], 0xFFFF, rng.randint(0, 130)))))
     return ["%s %d" % (name, rng.choice(values))]
 
@@ -205,11 +207,16 @@ def reads(s):
 
 
 def pipe(s):
-    """Bytes gathered and timeouts near their most, and what the pipe and the frame do."""
-    gathered, timeouts = s.rng.choice((0, 6, 7, 7)), s.rng.choice((0, 14, 15, 15))
-    set_parts(s, ["initialised 1", "gathered %d" % gathered, "timeouts %d" % timeouts])
-    for _ in range(s.rng.randint(1, 3)):
-        s.rng.choice((bench.one_pipe_byte, bench.timeout, bench.timeout, bench.samples))(s)
+    """Both halves and their timeouts near their most, and what the pipe and the frame do."""
+    gathered, in_hand = s.rng.choice((0, 6, 7, 7)), s.rng.choice((0, 0, 1, 2, 8, s.rng.randint(0, 8)))
+    counts = [s.rng.choice((0, 14, 15, 15)) for _ in range(2)]
+    set_parts(s, ["initialised 1", "gathered %d" % gathered, "timeouts %d" % counts[0]])
+    set_parts(s, ["out %d" % in_hand, "outtimeouts %d" % counts[1]])
+    if s.rng.random() < 0.2:
+        set_parts(s, asleep(s.rng))
+    for _ in range(s.rng.randint(1, 4)):
+        s.rng.choice((bench.one_pipe_byte, bench.timeout, bench.timeout, bench.samples, output.packet, output.wrong,
+                      output.taken, output.taken))(s)
 
 
 def edge(s, chosen=None, name=None):

@@ -7,7 +7,8 @@ from .sizes import CAPACITY, NAMES, ORDINARY, PRIORITY, SIZES
 BOUNDS = ["%s %s" % (name, part) for name in NAMES.values() for part in ("oldest", "waiting", "remaining")]
 BOUNDS += ["parameter %d %s" % (id, end) for id in ROWS for end in ("under least", "over most")
            if (id, end) not in ((1, "over most"), (2, "under least"))]
-BOUNDS += ["parameter 1 not below 2", "mode", "poll 0", "poll over 60000", "milliseconds", "gathered", "timeouts"]
+BOUNDS += ["parameter 1 not below 2", "mode", "poll 0", "poll over 60000", "milliseconds", "gathered", "timeouts",
+           "in hand", "output timeouts"]
 BOUNDS += ["place %d" % table for table in SIZES]
 BOUNDS += ["%s %d %s" % (kind, table, part) for kind in ("load", "read") for table in SIZES
            for part in ("N under 4", "N over 64", "along")]
@@ -52,11 +53,16 @@ def fields(pod):
 
 
 def pipe(pod):
-    """'0 to 7 bytes gathered; timeouts 0 to 15'."""
+    """'0 to 7 bytes gathered; timeouts 0 to 15'; by request No. 3 '0 to 8 bytes in hand, and
+    output timeouts 0 to 15'."""
     if len(pod.gathered) > 7:
         yield "gathered"
     if pod.timeouts > 15:
         yield "timeouts"
+    if len(pod.hand) > 8:
+        yield "in hand"
+    if pod.output_timeouts > 15:
+        yield "output timeouts"
 
 
 def places(pod):

@@ -54,10 +54,12 @@ class Commands:
             hit("packet 90: " + fault)
             if self.initialised:
                 hit("initialise: refused while initialised")
+            self.count_kept("initialise: refused,")
             return error(code, 0x39)
         hit("initialise: while initialised" if self.initialised
             else "initialise: after a shutdown or from power")
         self.forget_transfer("initialise")
+        self.count_forgotten("initialise")
         self.power_on()
         self.initialised = True
         self.take_fields(body)
@@ -69,6 +71,7 @@ class Commands:
         if fault:
             hit("packet 92: " + fault)
             return error(code, 0x39)
+        self.count_kept("update:")
         self.take_fields(body)
         self.updated = True
         return done(code)
@@ -116,6 +119,9 @@ class Commands:
         """'Shutdown makes the pod not initialised and closes an open transfer, which sets
         message error.'"""
         hit("shutdown: with a transfer open" if self.transfer else "shutdown: with no transfer open")
+        self.count_kept("shutdown:")
+        if self.output_timeouts:
+            hit("shutdown: output timeouts kept")
         self.close_transfer("shutdown")
         self.initialised = False
         return done(code)

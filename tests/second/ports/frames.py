@@ -1,5 +1,5 @@
-"""Sample frames and the byte pipe (document 01, 'Frames and pipe'; document 000, byte-pipe
-AN03 and AN47)."""
+"""Sample frames and the input half of the byte pipe (document 01, 'Frames and pipe'; document
+000, byte-pipe AN03 and AN47). The pipe timeout is of both halves."""
 
 from .labels import declare, hit
 from .refusal import Refused
@@ -49,18 +49,21 @@ class Frames:
 
     def an03(self, check, averages):
         """'In AN03: input timeouts in 0.7-4; 3.7 is 1 when 1 to 7 bytes are gathered; 5.2 is
-        1 when initialised; the self-check number in 7.6-2; all else 0.'"""
+        1 when initialised; the self-check number in 7.6-2; all else 0.' By request No. 3 'AN03
+        then carries the count in 0.3-0 and output busy in 5.7'."""
         self.count_an03()
         low1, high1 = channel_bytes(averages[1])
         low2, high2 = channel_bytes(averages[2])
         low3, high3 = channel_bytes(averages[3])
         busy = 0x80 if self.gathered else 0
+        handing = 0x80 if self.hand else 0
         power = 0x04 if self.initialised else 0
-        return bytes((self.timeouts << 4, 0, low1, busy | high1, low2, power | high2,
-                      low3, check << 2 | high3))
+        return bytes((self.timeouts << 4 | self.output_timeouts, 0, low1, busy | high1, low2,
+                      handing | power | high2, low3, check << 2 | high3))
 
     def count_an03(self):
         """Which of AN03's bits are shown."""
+        self.count_shown()
         if self.gathered:
             hit("samples: bytes gathered")
         if self.timeouts == 15:
@@ -90,12 +93,20 @@ class Frames:
         return sent
 
     def pipe_timeout(self):
-        """'The pipe timeout sends a short packet and counts one up to 15 (it stays 15); with
-        none gathered it does nothing.' Gives the bytes sent."""
+        """One call times out both halves. Gives the bytes that the input half sends."""
         self.rows("pipe timeout")
         if not self.initialised:
             hit("pipe timeout: not initialised")
+            if self.hand:
+                hit("pipe timeout: not initialised, bytes in hand")
             raise Refused(6)
+        self.count_halves()
+        self.output_timeout()
+        return self.input_timeout()
+
+    def input_timeout(self):
+        """'The pipe timeout sends a short packet and counts one up to 15 (it stays 15); with
+        none gathered it does nothing.'"""
         if not self.gathered:
             hit("pipe timeout: none gathered")
             return b""

@@ -58,6 +58,8 @@ PARTS = {
     "address": (range(-1, 2 ** 16), whole("address", or_none)),
     # '`gathered` n, n bytes of 0'
     "gathered": (range(9), whole("gathered", bytes)),
+    # '`out` n, n bytes of 0 in hand'
+    "out": (range(10), whole("hand", bytes)), "outtimeouts": (BYTE, whole("output_timeouts")),
 }
 for _digit, _store in enumerate(STORES):
     _counts = (BITS16, BITS32)[_digit]
@@ -203,14 +205,21 @@ def shown_memory(pod):
             *(words_bytes(pod.tables[table]) for table in SIZES)]
 
 
+def shown_output(pod):
+    """Behind all the rest: bytes in hand, output timeouts, and the bytes in hand, 8 at most."""
+    return [len(pod.hand), pod.output_timeouts], pod.hand[:8]
+
+
 def line_v(pod, line):
     """'`V` and these, each after one space'."""
     if line != b"V":
         hit("lab V: malformed")
         return b"?"
     hit("lab V: shown")
+    counts, hand = shown_output(pod)
     return b"V" + b"".join([b" %d" % n for n in shown_numbers(pod)]
-                           + [b" %04X" % crc(part) for part in shown_memory(pod)])
+                           + [b" %04X" % crc(part) for part in shown_memory(pod)]
+                           + [b" %d" % n for n in counts] + [b" %04X" % crc(hand)])
 
 
 LINES = {b"X": line_x, b"L": line_l, b"V": line_v}

@@ -14,9 +14,9 @@ from .sizes import ORDINARY, PRIORITY
 LONGEST = 1 + 3 * 65535  # a packet may have up to 65,535 bytes
 
 declare("line: too long", "line: empty", "line: unknown letter")
-declare(*["line %s: malformed" % letter for letter in "PDBCWRSAITZ"])
-declare(*["line %s: called" % letter for letter in "PDBCWRSAITZ"])
-declare(*["line %s: refused" % letter for letter in "BAIT"])
+declare(*["line %s: malformed" % letter for letter in "PDBCWRSAITOKZ"])
+declare(*["line %s: called" % letter for letter in "PDBCWRSAITOKZ"])
+declare(*["line %s: refused" % letter for letter in "BAITOK"])
 
 FORMS = {
     "P": re.compile(rb"P((?: [0-9A-F]{2})*)"),
@@ -29,6 +29,8 @@ FORMS = {
     "A": re.compile(rb"A ([0-9A-F]{2})((?: [0-9A-F]{4})*)"),
     "I": re.compile(rb"I ([0-9A-F]{2})"),
     "T": re.compile(rb"T"),
+    "O": re.compile(rb"O((?: [0-9A-F]{2})*)"),
+    "K": re.compile(rb"K"),
     "Z": re.compile(rb"Z"),
 }
 
@@ -89,6 +91,14 @@ def call_pipe_timeout(pod, _):
     return b"T" + hexed(pod.pipe_timeout())
 
 
+def call_packet_out(pod, match):
+    return b"O" + hexed(pod.packet_out(raw(match[1])))
+
+
+def call_taken(pod, _):
+    return b"K" + hexed(pod.taken())
+
+
 def call_power(pod, _):
     pod.power()
     return b"Z"
@@ -97,7 +107,8 @@ def call_power(pod, _):
 CALLS = {
     "P": call_packet, "D": call_deadline, "B": call_put, "C": call_command_word,
     "W": call_data_word_in, "R": call_data_word_out, "S": call_status_word,
-    "A": call_samples, "I": call_pipe_byte, "T": call_pipe_timeout, "Z": call_power,
+    "A": call_samples, "I": call_pipe_byte, "T": call_pipe_timeout,
+    "O": call_packet_out, "K": call_taken, "Z": call_power,
 }
 
 

@@ -2,13 +2,13 @@
 and changes nothing.'
 
 'Lowest number first': rows 1 to 3 look at what is lent and at the state handed in before
-the call looks at anything else, and stand here; each call raises its rows 4 to 7 itself,
-lower ones first. No line of `session` or `console` leads to rows 1 to 3: their labels are
-declared with the lines of `lab` that do.
+the call looks at anything else, and stand here; each call raises its other rows itself,
+lower ones first, but for those of request No. 3, '22 before 6, 21 last'. No line of `session`
+or `console` leads to rows 1 to 3: their labels are declared with the lines of `lab` that do.
 """
 
 from .bounds import broken
-from .labels import hit
+from .labels import declare, hit
 from .sizes import BLOCK, CAPACITY, LETTERS, SIZES
 
 # each thing that can be lent, and its right size: 'answer room under 260 bytes'
@@ -21,8 +21,11 @@ RIGHT.update(zip(TABLES, SIZES.values()))
 LENT = {
     "packet": ("room", "p", "o") + TABLES, "deadline": (), "put p": ("p",), "put o": ("o",),
     "command word": TABLES, "data word in": TABLES, "data word out": TABLES, "status word": (),
-    "samples": (), "pipe byte": (), "pipe timeout": (), "power on": TABLES,
+    "samples": (), "pipe byte": (), "pipe timeout": (), "packet out": (), "taken": (),
+    "power on": TABLES,
 }
+
+declare(*["%s: with bytes in hand" % call for call in LENT])
 
 
 class Refused(Exception):
@@ -58,3 +61,5 @@ class Rows:
         if outside:
             hit("lab %s: %s" % (call, outside[0] if len(outside) == 1 else "more than one bound"))
             raise Refused(3)
+        if self.hand:
+            hit(call + ": with bytes in hand")

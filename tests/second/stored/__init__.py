@@ -1,14 +1,15 @@
 """The stored session of `lab`: every line of X, L and V, every row at its edge, and each bound
 of the state one inside and one outside with every call."""
 
-from . import bounds, forms, rows
+from . import bounds, forms, output, rows
 from .book import Book
 
 
 def make():
     """The session."""
     book = Book()
-    for part in (forms.names, forms.numbers, forms.transfers, forms.lent, bounds.kept_memory,
-                 bounds.free_parts, rows.sizes, rows.unused, rows.edges, rows.orders, bounds.bounds):
+    for part in (forms.names, forms.numbers, forms.transfers, forms.lent, bounds.kept_memory, bounds.free_parts,
+                 output.handed, output.beside, output.counted, output.kept, output.set_by_hand,
+                 rows.sizes, rows.unused, rows.edges, rows.orders, bounds.bounds):
         part(book)
     return book

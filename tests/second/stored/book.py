@@ -4,7 +4,7 @@ equal."""
 from model import Pod
 from moves import bench, packets, words
 from moves.edges import lines
-from ports.lab import lab_line, shown_memory, shown_numbers
+from ports.lab import lab_line, shown_memory, shown_numbers, shown_output
 from ports.packets import sealed
 
 READ = words.READ
@@ -32,6 +32,11 @@ def put(letter, turn, size=256):
     return b"B " + letter + bench.digits(block(turn, size))
 
 
+def out(turn, size=8):
+    """The line of a packet out."""
+    return b"O" + bench.digits(block(turn + 5, size))
+
+
 def sampled(check=5, size=128, highest=1023):
     """The line of samples that rise to the highest."""
     return bench.sample_line(check, [max(highest - size + 1 + k, 0) for k in range(size)])
@@ -53,13 +58,15 @@ CALLS = {
     "A": [sampled()],
     "I": [b"I A5", b"I 00"],
     "T": [b"T"],
+    "O": [out(1), out(2), out(3, 7)],
+    "K": [b"K"],
     "Z": [b"Z"],
 }
 
 
 def state(pod):
     """All that V shows, whole."""
-    return shown_numbers(pod), [bytes(part) for part in shown_memory(pod)]
+    return shown_numbers(pod), [bytes(part) for part in shown_memory(pod)], shown_output(pod)
 
 
 class Book:
@@ -121,11 +128,12 @@ class Book:
 
 
 def awake(book):
-    """An initialised pod with blocks, table words, marks and an open transfer."""
+    """An initialised pod with blocks, table words, marks, both halves of the pipe and an open transfer."""
     book.say(b"Z", INITIALISE, packet("9301 03 000001F4"), packet("9301 07 00000002"))
     book.say(*(put(letter, turn) for turn in range(3) for letter in (b"p", b"o")))
     for table in (5, 6, 7):
         load = (table, 60, 3, 0x1111 * table, 0xFFFF, table)
         book.say(command(table, 6), *(b"W %04X" % word for word in load))
-    book.say(packet("9501"), packet("95017E"), b"I 81", b"I 7E", command(6, 8), b"W 0006", b"W 0001")
+    book.say(packet("9501"), packet("95017E"), out(0), b"T", out(1), b"K", b"I 81", b"I 7E")
+    book.say(command(6, 8), b"W 0006", b"W 0001")
     book.look()

@@ -3,18 +3,20 @@
 from ports.lab import PARTS
 from ports.refusal import RIGHT
 
-from .book import awake, put
+from .book import awake, out, put
 
 NO_NAMES = """
     param0 param13 param01 param10x param written0 written13 written place4 place8 place limit2 limit limit00
     remaining2 remaining oldest oldest2 waiting waiting01 initialise initialisedx Mode mod modes millisecond
-    millisecondss milliseconds0milliseconds second polls errors timeout exchanges addres transfers gather
+    millisecondss milliseconds0milliseconds second polls errors timeout exchanges addres transfers gather outs
+    out0 ou outtimeout outtimeout0 outtimeoutss intimeouts
     room p o 5 6 7 V X""".split()
 
 NO_LINES = (
     b"X|X |X mode|X mode |X  mode 1|X mode  1|X mode 1 | X mode 1|X mode 1 1|Xmode 1|X mode1|x mode 1|X mode +1|"
     b"X mode -|X mode --1|X mode 1-|X mode 0x1|X mode 1.0|X mode 1,0|X mode A|X\tmode 1|X mode\t1|X 1|X mode one|"
-    b"X mode /|X mode :|X transfer|X written|V |V 1|VV|v| V").split(b"|")
+    b"X mode /|X mode :|X transfer|X written|X out|X out |X out 1 1|X out1|X out -|"
+    b"X outtimeouts|V |V 1|VV|v| V").split(b"|")
 
 NO_LENDS = (
     b"L|L |L room|L room |L 5|L  5 1|L 5  1|L 5 1 |L 5 64 64|L room -1|L room 00000000260|L room 9999999999|L 4 64|"
@@ -26,7 +28,8 @@ SPELLED = (
     b"seconds -00000000000|seconds 12345678901|param1 -0000000005|param1 -00000000006|param1 -0|param1 -2147483649|"
     b"mode 0256|mode 00255|mode -1|exchange 0000000145|exchange -01|exchange 150|exchange -0|exchange -145|"
     b"exchange -0000000001|address 007|address -1|address -0|address -2|address -001|initialised 01|initialised -1|"
-    b"gathered 9|gathered 08|gathered -0").split(b"|")
+    b"gathered 9|gathered 08|gathered -0|out 10|out 009|out -0|out -1|out 0000000008|outtimeouts 0255|outtimeouts 256|"
+    b"outtimeouts -0|outtimeouts 00000000015").split(b"|")
 
 TRANSFERS = (
     b"1 0 1 0 0|-1|01 -0 001 0000000000 0|-01|5 0 255 255 0|6 1 255 255 255|7 0 0 0 0|5 1 0 0 0|6 0 64 63 0|"
@@ -110,7 +113,7 @@ def lent(book):
     book.refused(b"C 8000", 0)
     book.say(b"L 5 64", b"L 5 0")
     book.refused(b"C 8000", 2)
-    for ends in (b"D", b"S", b"T", put(b"o", 4), b"B p 00", b"I 80", b"Z", b"I 80"):
+    for ends in (b"D", b"S", b"T", put(b"o", 4), b"B p 00", b"I 80", out(2), b"O", b"K", b"Z", b"I 80", b"K"):
         book.say(b"L room 0", b"L p 4097")
         book.call(ends)
         book.refused(b"P", 0)
