@@ -1,5 +1,5 @@
 #!/usr/bin/env python3
-"""The two status frames a second time, from document 01 ("Frames and pipe") and the byte-pipe tables of document 000.
+"""The two status frames a second time, from document 01 ("Frames and pipe"), request No. 3 and the byte-pipe tables of document 000.
 
 Works out the text that the program `show_frames` prints and compares it with that program's stored stdout.
 Prints `show_frames: ok`, or the first line that differs and exits with status 1.
@@ -27,7 +27,7 @@ def channel(frame, at, value):
     place(frame, "%d.1-0" % (at + 1), value >> 8)
 
 
-def frames(samples, gathered, timeouts, initialised, selfcheck):
+def frames(samples, gathered, timeouts, initialised, selfcheck, hand=0, dropped=0):
     if len(samples) != 128:
         return "length"
     if max(samples) > 1023:
@@ -35,9 +35,11 @@ def frames(samples, gathered, timeouts, initialised, selfcheck):
     averages = [sum(samples[c::8]) // 16 for c in range(8)]
     an03, an47 = [0] * 8, [0] * 8
     place(an03, "0.7-4", timeouts)
+    place(an03, "0.3-0", dropped)
     channel(an03, 2, averages[1])
     place(an03, "3.7", 1 if 1 <= gathered <= 7 else 0)
     channel(an03, 4, averages[2])
+    place(an03, "5.7", 1 if 1 <= hand <= 8 else 0)
     place(an03, "5.2", 1 if initialised else 0)
     channel(an03, 6, averages[3])
     place(an03, "7.6-2", selfcheck)
@@ -67,6 +69,10 @@ def texts():
         yield frames(zeros, given % 8, 0, False, 0)
     for sent in range(1, 17):
         yield frames(zeros, 0, min(sent, 15), False, 0)
+    for taken in range(10):
+        yield frames(zeros, 0, 0, False, 0, hand=max(8 - taken, 0))
+    for dropped in range(1, 17):
+        yield frames(zeros, 0, 0, False, 0, dropped=min(dropped, 15))
 
 
 if __name__ == "__main__":

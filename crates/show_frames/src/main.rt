@@ -1,8 +1,10 @@
-// Prints the two frames at their corners, a line of sixteen bytes each: samples, flags, self-check numbers and timeouts.
+// Prints the two frames at their corners, a line of sixteen bytes each: samples, flags, self-check numbers and timeouts
+// of both halves of the pipe.
 // `over` stands for samples that are not bounded. tests/show_frames.py works the same lines out from the papers.
 use frames::Frames;
 use libc::STDOUT_FILENO;
 use pipe::Input;
+use pipe::Output;
 use pipe::Pipe;
 ghost use Prim.Native.Nat.{_≤_, _<_};
 
@@ -30,22 +32,35 @@ fn write(f: Frames) {
 }
 
 // Writes the frames of these samples. What the frames ask of a caller is tested here, as the pod does.
-fn show(samples: &[u16], input: Input, initialised: bool, selfcheck: u8) {
+fn show(samples: &[u16], pipe: Pipe, initialised: bool, selfcheck: u8) {
     if samples.len() != 128 {
         return;
     }
-    if input.timeouts > 15 {
+    if pipe.input.timeouts > 15 {
+        return;
+    }
+    if pipe.output.timeouts > 15 {
         return;
     }
     if selfcheck > 31 {
         return;
     }
     if frames::bounded(samples) {
-        let pipe = Pipe { input };
         write(frames::two_frames(samples, pipe, initialised, selfcheck));
     } else {
         io::write_all(STDOUT_FILENO, b"over\n");
     }
+}
+
+// Frames with nothing in hand, and frames with nothing gathered.
+fn from_camera(input: Input) {
+    let output = Output::fresh();
+    show(&[0; 128], Pipe { input, output }, false, 0);
+}
+
+fn to_camera(output: Output) {
+    let input = Input::fresh();
+    show(&[0; 128], Pipe { input, output }, false, 0);
 }
 
 // All samples 0, and sample k at v.
@@ -71,21 +86,21 @@ fn channel(c: usize) -> [u16; 128]
 // Each channel by itself at 1,023.
 fn channels() {
     for c in 0..8usize {
-        show(&channel(c), Input::fresh(), false, 0);
+        show(&channel(c), Pipe::fresh(), false, 0);
     }
 }
 
 // Each sample by itself at v.
 fn samples(v: u16) {
     for k in 0..128usize {
-        show(&alone(k, v), Input::fresh(), false, 0);
+        show(&alone(k, v), Pipe::fresh(), false, 0);
     }
 }
 
 // Each self-check number.
 fn checks() {
     for n in 0..32u8 {
-        show(&[0; 128], Input::fresh(), false, n);
+        show(&[0; 128], Pipe::fresh(), false, n);
     }
 }
 
@@ -99,7 +114,7 @@ fn bytes() {
         let piped = input.byte(b);
         let next = piped.input;
         input = next;
-        show(&[0; 128], input, false, 0);
+        from_camera(input);
     }
 }
 
@@ -118,18 +133,47 @@ fn timeouts() {
         let piped = held.timeout();
         let next = piped.input;
         input = next;
-        show(&[0; 128], input, false, 0);
+        from_camera(input);
+    }
+}
+
+// A packet, and after each of nine bytes taken.
+fn takes() {
+    let handed = Output::fresh().packet([1, 2, 3, 4, 5, 6, 7, 8]);
+    let mut output = handed.output;
+    to_camera(output);
+    for _ in 0..9u8 {
+        if output.hand > 8 {
+            return;
+        }
+        let handed = output.taken();
+        let next = handed.output;
+        output = next;
+        to_camera(output);
+    }
+}
+
+// After each of sixteen packets that were dropped.
+fn drops() {
+    let mut output = Output::fresh();
+    for b in 0..16u8 {
+        let handed = output.packet([b; 8]);
+        let held = handed.output;
+        output = held.timeout();
+        to_camera(output);
     }
 }
 
 fn main() {
-    show(&[0; 128], Input::fresh(), false, 0);
-    show(&[1023; 128], Input::fresh(), true, 31);
-    show(&[0; 128], Input::fresh(), true, 0);
+    show(&[0; 128], Pipe::fresh(), false, 0);
+    show(&[1023; 128], Pipe::fresh(), true, 31);
+    show(&[0; 128], Pipe::fresh(), true, 0);
     channels();
     samples(1023);
     samples(1024);
     checks();
     bytes();
     timeouts();
+    takes();
+    drops();
 }
