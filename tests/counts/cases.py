@@ -81,7 +81,9 @@ OTHERS = (
     Case("put", "B", BLOCK, few=28, many=128),
     Case("sample set", "A"),
     Case("pipe byte, the eighth", "I", few=7, many=8),
-    Case("pipe timeout with seven gathered", "T", few=7, many=8),
+    Case("pipe timeout with seven gathered and eight in hand", "T", few=8, many=9),
+    Case("packet out", "O", few=9, many=10),
+    Case("taken, one of seven", "K", few=1, many=8),
     Case("deadline", "D", NONE + NONE),
 )
 # By the word for the C peer.

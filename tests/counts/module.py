@@ -30,8 +30,8 @@ CALLS = (
     "packet_out",
     "taken",
 )
-# those that `repeats` makes: not power on, and none of the pipe's output half
-REPEATED = CALLS[1:-2]
+# those that `repeats` makes: not power on
+REPEATED = CALLS[1:]
 AIRFRAME = ("build", "read")
 KEEPER = """#!/bin/sh
 cp module.bc '{keep}.bc' && printf '%s\\n' "$@" >'{keep}.words' && exec '{clang}' "$@"

@@ -19,17 +19,18 @@ pub enum Word {
     Status,
 }
 
-pub enum Shown {
-    Samples,
-    Sum,
+pub enum Flow {
+    Byte,
+    Timeout,
+    Out,
 }
 
 pub enum Call {
     Other,
     Port(Port),
     Word(Word),
-    Pipe(bool),
-    Shown(Shown),
+    Pipe(Flow),
+    Samples,
 }
 
 pub fn call_of(letter: u8) -> Call {
@@ -41,10 +42,11 @@ pub fn call_of(letter: u8) -> Call {
         b'W' => Call::Word(Word::In),
         b'R' => Call::Word(Word::Out),
         b'S' => Call::Word(Word::Status),
-        b'I' => Call::Pipe(false),
-        b'T' => Call::Pipe(true),
-        b'A' => Call::Shown(Shown::Samples),
-        b'K' => Call::Shown(Shown::Sum),
+        b'I' => Call::Pipe(Flow::Byte),
+        b'T' => Call::Pipe(Flow::Timeout),
+        b'O' => Call::Pipe(Flow::Out),
+        b'K' => Call::Pipe(Flow::Out),
+        b'A' => Call::Samples,
         _ => Call::Other,
     }
 }
@@ -95,31 +97,26 @@ pub fn worded(
     }
 }
 
-// Where there are timeouts each eighth call is one, and finds seven bytes gathered.
-pub fn passed(pod: Pod, byte: u8, turn: usize, timeouts: bool) -> Passed {
-    if timeouts & (turn % 8 == 7) {
-        return pod::pipe_timeout(pod);
+// Of nine calls with a timeout the first is a packet out and the ninth the timeout, which finds seven bytes gathered and eight in
+// hand. Of nine of the output half the first is a packet out, and eight bytes of it are taken.
+pub fn passed(flow: Flow, pod: Pod, byte: u8, turn: usize) -> Passed {
+    match flow {
+        Flow::Byte => pod::pipe_byte(pod, byte),
+        Flow::Timeout => match turn % 9 {
+            0 => pod::packet_out(pod, &[byte; 8]),
+            8 => pod::pipe_timeout(pod),
+            _ => pod::pipe_byte(pod, byte),
+        },
+        Flow::Out => match turn % 9 {
+            0 => pod::packet_out(pod, &[byte; 8]),
+            _ => pod::taken(pod),
+        },
     }
-    pod::pipe_byte(pod, byte)
 }
 
-// A byte goes in, and something of what the call gives comes back.
-pub fn value_of(
-    kind: Shown,
-    pod: Pod,
-    byte: u8,
-    samples: &[u16; 128],
-    message: &mut [u8; 258],
-) -> u16 {
-    match kind {
-        Shown::Samples => {
-            let framed = pod::samples(pod, byte % 32, samples);
-            let frames = framed.frames;
-            number(0, frames.an03[7] / 4)
-        }
-        Shown::Sum => {
-            message[0] = byte;
-            crc::crc_of(message)
-        }
-    }
+// A byte goes in, and something of what the frames show comes back.
+pub fn shown(pod: Pod, byte: u8, samples: &[u16; 128]) -> u16 {
+    let framed = pod::samples(pod, byte % 32, samples);
+    let frames = framed.frames;
+    number(0, frames.an03[7] / 4)
 }
