@@ -70,7 +70,7 @@ module _ (s : Store) where
       rw (← o .exchange, ← h) (blocks-settled s (settles first one (w .pod) (o .waits)) (storeIn s (w .lent)))
   blocks-kept w _ _ (shelved r b k) x q o h = rw (← h) (blocks-put s r b w k)
   blocks-kept w _ _ (spoken c k) x q o h = h
-  blocks-kept w _ _ (touched t k) x q o h = h
+  blocks-kept w _ _ (touched c k) x q o h = h
 
   abbrev WaitingAs : World → Waiting → Type 0
   WaitingAs w a = Opened w (a .exchange) × (waitingIn s w ≡ a .blocks)

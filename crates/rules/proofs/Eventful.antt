@@ -23,12 +23,12 @@ use Rattle.rules.specs.declared.Exchange.{Exchange}
 use Rattle.rules.specs.declared.Exchange.the-variants as exchange
 use Rattle.rules.specs.State.{ofStore, remainingOf, freshFields, soundPod, withExchange}
 use Rattle.rules.specs.Obey.{shut, checksOf, doneBy, acknowledgedOf}
-use Rattle.rules.specs.Families.{WordCall}
+use Rattle.rules.specs.Families.{WordCall, LoneCall}
 use Rattle.rules.specs.Calls.{replyBytes, spokenBytes, answered, reachOf, reached, packetHeard}
-use Rattle.rules.specs.World.{World, world, Call, packet, put, word, Stepped, overSent, rowsOf}
+use Rattle.rules.specs.World.{World, world, Call, packet, put, word, lone, Stepped, overSent, rowsOf}
 use Rattle.rules.specs.History.{Event, nothing, begins, sleeps, updates, writesParameter, opensExchange, closesExchange, hearsAcknowledgement, puts, words, Touch, loneAs, touches, obeyedAs, succeeded, eventOf}
 use Rattle.rules.proofs.Happens.{Happens, by-rows, by-power, by-empty, by-damage, by-acknowledgement, by-check, by-command, by-put, by-word, by-lone, by-samples, powering, obeying, putting, wording}
-use Rattle.rules.proofs.Lone.{Fits, lone-fits, touchOf, lone-is}
+use Rattle.rules.proofs.Lone.{touchOf, lone-is}
 use Rattle.rules.proofs.Succeeded.{one-succeeds, error-fails, room-at}
 
 -- the block of an open receive waits, and remaining is above 0
@@ -63,7 +63,7 @@ pub data Eventful (w : World) : Event → World → Type 0 where
       → Eventful w (hearsAcknowledgement first one) (world (acknowledgedOf first one (w .pod)) (w .lent))
   shelved : (s : Store) (b : List ℕ) → Clear (rowsOf w (put s b)) → Eventful w (puts s b) (putting s b w .world)
   spoken : (c : WordCall) → Clear (rowsOf w (word c)) → Eventful w (words c) (wording c w .world)
-  touched : (t : Touch) → Fits (t .moves) (w .pod .pipe) → Eventful w (touches t (touching t w .told .bytes)) (touching t w .world)
+  touched : (c : LoneCall) → Clear (rowsOf w (lone c)) → Eventful w (touches (loneAs c) (touching (loneAs c) w .told .bytes)) (touching (loneAs c) w .world)
 
 -- where no row of a packet holds, the pod is sound
 pub sound-at : (w : World) (b room : List ℕ) → Clear (rowsOf w (packet b room)) → soundPod (w .pod) ≡ true
@@ -89,7 +89,7 @@ module _ (w : World) (room : List ℕ) (wide : 260 ≤ length room) where
   command-succeeds c = one-succeeds room (commandRow c .code) _ wide
 
 pub eventful : {w : World} {c : Call} {s : Stepped} → Happens w c s → Eventful w (eventOf c (s .told)) (s .world)
-unfolding eventOf rowsOf packetHeard answered spokenBytes replyBytes
+unfolding eventOf packetHeard answered spokenBytes replyBytes
 eventful (by-rows c n f) = quiet
 eventful (by-power k) = anew
 eventful {w} (by-empty b room k e) = rw e quiet
@@ -99,5 +99,5 @@ eventful {w} (by-check b room c n k e f) = rw (e, error-fails room (commandRow c
 eventful {w} (by-command b room c k e q) = rw (e, command-succeeds w room (room-at w b room k) c) (obeyed w room (room-at w b room k) c q)
 eventful (by-put s b k) = shelved s b k
 eventful (by-word c k) = spoken c k
-eventful {w} (by-lone c k) = rw (lone-is c (reachOf (w .pod))) (touched (loneAs c) (lone-fits c (w .pod) k))
+eventful {w} (by-lone c k) = rw (lone-is c (reachOf (w .pod))) (touched c k)
 eventful (by-samples k xs c) = quiet

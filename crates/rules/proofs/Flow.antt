@@ -17,7 +17,7 @@ use Rattle.rules.specs.State.{Lent, freshPod}
 use Rattle.rules.specs.Obey.{initialisedPod, doneBy}
 use Rattle.rules.specs.Families.{PipeCall, byte, timeout, packetOut, taken, pipeOf}
 use Rattle.rules.specs.World.{Call, final, powered}
-use Rattle.rules.specs.History.{events, fold}
+use Rattle.rules.specs.History.{loneAs, events, fold}
 use Rattle.rules.specs.Halves.{toAircraft, gaveIf, Flow, noFlow, flowAfter, flowMoved, flowBy, sentBy, Flows, PipeIsHistory}
 use Rattle.rules.proofs.Lone.{movedBy}
 use Rattle.rules.proofs.Eventful.{quiet, anew, initialised, slept, updated, wrote, began, closed, acknowledged, shelved, spoken, touched}
@@ -116,7 +116,7 @@ flow-kept w _ _ closed a x = x
 flow-kept w _ _ (acknowledged first one e) a x = rw (acknowledged-untouched first one (w .pod) .pipe) x
 flow-kept w _ _ (shelved s b k) a x = x
 flow-kept w _ _ (spoken c k) a x = x
-flow-kept w _ _ (touched t k) a x = moved-flows (t .moves) (w .pod .pipe) (a .0) (a .1) x
+flow-kept w _ _ (touched c k) a x = moved-flows (loneAs c .moves) (w .pod .pipe) (a .0) (a .1) x
 
 pub flowing-is : (l : Lent) (cs : List Call)
     → Flowing (final (powered l) cs .pod .pipe .input) (fold sentBy [] (events (powered l) cs)) (fold flowBy noFlow (events (powered l) cs))

@@ -21,10 +21,10 @@ use Rattle.pipe.proofs.Hand.{WholeOut, length-out, none-out, held-packet, held-
 use Rattle.rules.specs.State.{Lent, freshPod}
 use Rattle.rules.specs.Obey.{initialisedPod, doneBy}
 use Rattle.rules.specs.Families.{PipeCall, byte, timeout, packetOut, taken, pipeOf}
-use Rattle.rules.specs.World.{Call, final, powered}
-use Rattle.rules.specs.History.{events, fold}
+use Rattle.rules.specs.World.{Call, rowsOf, final, powered}
+use Rattle.rules.specs.History.{loneAs, events, fold}
 use Rattle.rules.specs.Halves.{toCamera, gaveIf, Packet, packetOf, shownOf, handOf, isOver, Handing, handing, noHanding, inHand, shownIn, allOver, cutLast, takenLast, handingAfter, handingMoved, handingBy, shownBy, Hands, HandedIsHistory}
-use Rattle.rules.proofs.Lone.{Fits, movedBy}
+use Rattle.rules.proofs.Lone.{Fits, lone-fits, movedBy}
 use Rattle.rules.proofs.Eventful.{quiet, anew, initialised, slept, updated, wrote, began, closed, acknowledged, shelved, spoken, touched}
 use Rattle.rules.proofs.Histories.{Keeps, history, both, fold-both, powered-fresh}
 use Rattle.rules.proofs.Untouched.{acknowledged-untouched}
@@ -180,7 +180,7 @@ moved-hands (some c) p k s h x = pipe-hands c p k s h x
 -- ---- over every run of calls
 
 hands-kept : Keeps (both shownBy handingBy) (λ w a. Handled (w .pod .pipe .output) (a .0) (a .1))
-unfolding shownBy handingBy doneBy initialisedPod freshPod
+unfolding rowsOf shownBy handingBy doneBy initialisedPod freshPod
 hands-kept w _ _ quiet a x = x
 hands-kept w _ _ anew a x = emptied (a .0) (a .1) (x .hands .answered) (x .hands .over)
 hands-kept w _ _ (initialised f) a x = emptied (a .0) (a .1) (x .hands .answered) (x .hands .over)
@@ -192,7 +192,7 @@ hands-kept w _ _ closed a x = x
 hands-kept w _ _ (acknowledged first one e) a x = rw (acknowledged-untouched first one (w .pod) .pipe) x
 hands-kept w _ _ (shelved s b k) a x = x
 hands-kept w _ _ (spoken c k) a x = x
-hands-kept w _ _ (touched t k) a x = moved-hands (t .moves) (w .pod .pipe) k (a .0) (a .1) x
+hands-kept w _ _ (touched c k) a x = moved-hands (loneAs c .moves) (w .pod .pipe) (lone-fits c (w .pod) k) (a .0) (a .1) x
 
 pub handed-is : (l : Lent) (cs : List Call)
     → Handled (final (powered l) cs .pod .pipe .output) (fold shownBy [] (events (powered l) cs)) (fold handingBy noHanding (events (powered l) cs))

@@ -34,7 +34,7 @@ use Rattle.rules.specs.State.{Lent, withInitialised, withFields, withPar
 use Rattle.rules.specs.Obey.{Meant, success, report, value, block, shut, initialisedPod, checksOf, doneBy, obeyOf, matches, dropFrom, settled, acknowledgedOf, reportOf}
 use Rattle.rules.specs.Calls.{powerCall, Spoken, silent, says, replied, packetHeard, meantBody, replyBytes, spokenBytes, answered, packetCall, putCall, loneCall, samplesCall}
 use Rattle.rules.specs.World.{World, world, Call, Stepped, overTables, overRoom, overStore, overSent, overFrames, step}
-use Rattle.rules.proofs.Lone.{lone-rows}
+use Rattle.rules.proofs.Lone.{rows-alike}
 use Rattle.rules.proofs.Between.{Other, powers, sends, puts, touches, shows}
 
 -- with other words of a load
@@ -163,7 +163,7 @@ module _ (h : Header) (k j : ℕ) (along : k < h .n) (before : j < h .n) (l m : 
       ran-two (λ o q. overRoom o a ≡ held (Load h k) l (overRoom q b)) (rw sound-same) (λ n. refl) (λ q. heard-same room (packetRead d))
   step-same (puts s d) = ran-two (λ o q. overStore s o a ≡ held (Load h k) l (overStore s q b)) (rw sound-same) (λ n. refl) (λ q. refl)
   step-same (touches c) =
-      ran-two (λ o q. overSent o a ≡ held (Load h k) l (overSent q b)) (rw (lone-rows c (a .pod), lone-rows c (b .pod), sound-same)) (λ n. refl) (λ q. refl)
+      ran-two (λ o q. overSent o a ≡ held (Load h k) l (overSent q b)) (rows-alike c (a .pod) (b .pod) sound-same refl refl) (λ n. refl) (λ q. refl)
   step-same (shows i xs) = ran-two (λ o q. overFrames o a ≡ held (Load h k) l (overFrames q b)) (rw sound-same) (λ n. refl) (λ q. refl)
 
 -- so of a world with an open load

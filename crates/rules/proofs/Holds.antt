@@ -20,7 +20,7 @@ use Rattle.rules.specs.declared.Pod.{Pod}
 use Rattle.rules.specs.State.{Lent, withRing, withRemaining, ringOf, remainingOf, freshPod}
 use Rattle.rules.specs.Obey.{initialisedPod, doneBy, dropFrom, acknowledgedOf}
 use Rattle.rules.specs.World.{World, Call, final, powered}
-use Rattle.rules.specs.History.{Event, hearsAcknowledgement, events, fold, awakeBy, exchangeBy, sameStore, acknowledged as acknowledgedBy, lessBy, fieldsBy, Fielded, freshFielded, fieldedBy}
+use Rattle.rules.specs.History.{loneAs, Event, hearsAcknowledgement, events, fold, awakeBy, exchangeBy, sameStore, acknowledged as acknowledgedBy, lessBy, fieldsBy, Fielded, freshFielded, fieldedBy}
 use Rattle.rules.specs.Replies.{awakeFrom}
 use Rattle.rules.proofs.Eventful.{Eventful, quiet, anew, initialised, slept, updated, wrote, began, closed, acknowledged, shelved, spoken, touched, Waits}
 use Rattle.rules.proofs.Histories.{Keeps, history, powered-fresh}
@@ -43,7 +43,7 @@ awake-kept w _ _ closed b h = h
 awake-kept w _ _ (acknowledged first one k) b h = acknowledged-untouched first one (w .pod) .initialised ∙ h
 awake-kept w _ _ (shelved s q k) b h = h
 awake-kept w _ _ (spoken c k) b h = h
-awake-kept w _ _ (touched t k) b h = h
+awake-kept w _ _ (touched c k) b h = h
 
 pub awake-is : (l : Lent) (cs : List Call) → final (powered l) cs .pod .initialised ≡ awakeFrom (events (powered l) cs)
 unfolding freshPod
@@ -85,7 +85,7 @@ exchange-kept w _ _ closed x h = record { exchange = refl; waits = tt }
 exchange-kept w _ _ (acknowledged first one k) x h = record { exchange = refl; waits = tt }
 exchange-kept w _ _ (shelved s b k) x h = record { exchange = h .exchange; waits = more-waits (w .pod .exchange) s (w .pod) (h .waits) }
 exchange-kept w _ _ (spoken c k) x h = record { exchange = h .exchange; waits = h .waits }
-exchange-kept w _ _ (touched t k) x h = record { exchange = ap (λ y. cond (t .closes) Closed y) (h .exchange); waits = waits-unless (t .closes) (w .pod .exchange) (w .pod) (h .waits) }
+exchange-kept w _ _ (touched c k) x h = record { exchange = ap (λ y. cond (loneAs c .closes) Closed y) (h .exchange); waits = waits-unless (loneAs c .closes) (w .pod .exchange) (w .pod) (h .waits) }
 
 pub fresh-opened : (l : Lent) → Opened (powered l) Closed
 unfolding freshPod
@@ -123,7 +123,7 @@ fields-kept w _ _ closed x f o h = h
 fields-kept w _ _ (acknowledged first one k) x f o h = rw (← o .exchange, ← h) (settled-fields (settles first one (w .pod) (o .waits)))
 fields-kept w _ _ (shelved s b k) x f o h = h
 fields-kept w _ _ (spoken c k) x f o h = h
-fields-kept w _ _ (touched t k) x f o h = h
+fields-kept w _ _ (touched c k) x f o h = h
 
 abbrev FieldedAs : World → Fielded → Type 0
 FieldedAs w a = Opened w (a .exchange) × (w .pod .fields ≡ a .fields)

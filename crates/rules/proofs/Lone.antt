@@ -1,20 +1,20 @@
 -- The calls that are lent nothing: two laws of each, its rows by document 01's table and its effect by the history. The rest follows.
 -- Assumes nothing.
 use mathlib.Core.Path.{_≡_, refl}
-use mathlib.Core.Bool.{Bool, true, false, not, cond}
-use mathlib.Core.List.{List, [], _∷_}
+use mathlib.Core.Bool.{Bool, true, false, _||_, cond}
+use mathlib.Core.List.{[]}
 use mathlib.Core.Option.{Option, none, some}
 use lib.ListN.{length}
 use borrow.Author.Tests.{eqb-true}
-use Rattle.rows.specs.Rows.{Row, row, Clear, past, out, rising}
+use Rattle.rows.specs.Rows.{Clear, out, rising, held}
 use Rattle.rows.proofs.Bool.{never, not-false}
+use Rattle.rows.proofs.Lowest.{clear-held}
 use Rattle.pipe.specs.declared.Pipe.{Pipe}
 use Rattle.pipe.specs.Input.{sentPacket, sentBytes}
 use Rattle.pipe.specs.Output.{busyOf}
 use Rattle.rules.specs.declared.Exchange.the-variants.{Closed}
 use Rattle.rules.specs.declared.Pod.{Pod}
 use Rattle.rules.specs.State.{soundPod}
-use Rattle.rules.specs.Refusals.{eightRow}
 use Rattle.rules.specs.Families.{PipeCall, byte, timeout, packetOut, taken, Sends, pipeOf, LoneCall, deadline, pipe, Reach, reach, loneOf}
 use Rattle.rules.specs.Calls.{loneRows}
 use Rattle.rules.specs.Numbered.{loneRises}
@@ -23,20 +23,14 @@ use Rattle.rules.specs.Said.{isMove}
 
 -- ---- its rows
 
--- by whether the state is sound, whether the pod is initialised, and its pipe
-abbrev pub rowsBy : LoneCall → Bool → Bool → Pipe → List Row
-rowsBy deadline sound on i = row 3 (not sound) ∷ []
-rowsBy (pipe (byte b)) sound on i = row 3 (not sound) ∷ row 6 (not on) ∷ []
-rowsBy (pipe timeout) sound on i = row 3 (not sound) ∷ row 6 (not on) ∷ []
-rowsBy (pipe (packetOut b)) sound on i = row 3 (not sound) ∷ eightRow b ∷ row 6 (not on) ∷ row 21 (busyOf (i .output)) ∷ []
-rowsBy (pipe taken) sound on i = row 3 (not sound) ∷ row 6 (not on) ∷ []
-
-pub lone-rows : (c : LoneCall) (p : Pod) → loneRows c p ≡ rowsBy c (soundPod p) (p .initialised) (p .pipe)
-lone-rows deadline p = refl
-lone-rows (pipe (byte b)) p = refl
-lone-rows (pipe timeout) p = refl
-lone-rows (pipe (packetOut b)) p = refl
-lone-rows (pipe taken) p = refl
+-- they look at whether the state is sound, whether the pod is initialised, and its pipe
+pub rows-alike : (c : LoneCall) (p q : Pod) → soundPod p ≡ soundPod q → p .initialised ≡ q .initialised → p .pipe ≡ q .pipe
+    → loneRows c p ≡ loneRows c q
+rows-alike deadline p q sound on same = rw sound
+rows-alike (pipe (byte b)) p q sound on same = rw (sound, on)
+rows-alike (pipe timeout) p q sound on same = rw (sound, on)
+rows-alike (pipe (packetOut b)) p q sound on same = rw (sound, on, same)
+rows-alike (pipe taken) p q sound on same = rw (sound, on)
 
 pub lone-rise : (c : LoneCall) (p : Pod) → loneRises c ≡ true → rising 0 (loneRows c p) ≡ true
 unfolding rising
@@ -54,11 +48,17 @@ Fits (some timeout) i = Unit {0}
 Fits (some (packetOut b)) i = (length b ≡ 8) × (busyOf (i .output) ≡ false)
 Fits (some taken) i = Unit {0}
 
+or-first : (a b : Bool) → (a || b) ≡ false → a ≡ false
+or-first true b h = h
+or-first false b h = refl
+
 pub lone-fits : (c : LoneCall) (p : Pod) → Clear (loneRows c p) → Fits (loneAs c .moves) (p .pipe)
+unfolding held
 lone-fits deadline p k = tt
 lone-fits (pipe (byte b)) p k = tt
 lone-fits (pipe timeout) p k = tt
-lone-fits (pipe (packetOut b)) p (past a (past e (past s (past h k)))) = (eqb-true (length b) 8 (not-false e), h)
+lone-fits (pipe (packetOut b)) p k =
+    (eqb-true (length b) 8 (not-false (or-first _ _ (clear-held k 22))), or-first _ _ (clear-held k 21))
 lone-fits (pipe taken) p k = tt
 
 -- ---- its effect

@@ -36,7 +36,7 @@ event-errs w _ _ closed = refl
 event-errs w _ _ (acknowledged first one k) = ap (λ (q : Words). q .error) (acknowledged-untouched first one (w .pod) .words)
 event-errs w _ _ (shelved s b k) = refl
 event-errs w _ _ (spoken c k) = ap (λ (q : Words). q .error) (as-heard c (w .pod .initialised) (w .pod .words) (deskIn (w .lent)) .words)
-event-errs w _ _ (touched t k) = refl
+event-errs w _ _ (touched c k) = refl
 
 pub message-error : MessageError
 message-error w c = event-errs w _ _ (eventful (happens w c))

@@ -25,7 +25,7 @@ event-tables w _ _ closed = refl
 event-tables w _ _ (acknowledged first one k) = refl
 event-tables w _ _ (shelved s b k) = refl
 event-tables w _ _ (spoken c k) = as-heard c (w .pod .initialised) (w .pod .words) (deskIn (w .lent)) .tables
-event-tables w _ _ (touched t k) = refl
+event-tables w _ _ (touched c k) = refl
 
 pub tables-only : TablesOnly
 tables-only w c = event-tables w _ _ (eventful (happens w c))

@@ -35,7 +35,7 @@ event-ported w _ _ (shelved s b k) = refl
 event-ported w _ _ (spoken c k) =
     let so = as-heard c (w .pod .initialised) (w .pod .words) (deskIn (w .lent)) in
     λ i. ported (w .pod .initialised) (so .words i) (so .load i)
-event-ported w _ _ (touched t k) = refl
+event-ported w _ _ (touched c k) = refl
 
 -- power leaves the words of a load, refused or not
 load-left : {w : World} {s : Stepped} → Happens w power s → s .world .lent .load ≡ w .lent .load

@@ -32,7 +32,7 @@ event-port w _ _ closed = refl
 event-port w _ _ (acknowledged first one k) = acknowledged-untouched first one (w .pod) .words
 event-port w _ _ (shelved s b k) = refl
 event-port w _ _ (spoken c k) = as-heard c (w .pod .initialised) (w .pod .words) (deskIn (w .lent)) .words
-event-port w _ _ (touched t k) = refl
+event-port w _ _ (touched c k) = refl
 
 pub port-only : PortOnly
 port-only w c = event-port w _ _ (eventful (happens w c))

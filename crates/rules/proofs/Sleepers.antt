@@ -2,7 +2,7 @@
 -- pods, or power on or an accepted Initialise makes them twins.
 -- Assumes nothing.
 use Prim.Native.Nat.{ℕ}
-use mathlib.Core.Path.{_≡_, refl, ap, ap₂, _∙_}
+use mathlib.Core.Path.{_≡_, refl, sym, ap, ap₂, _∙_}
 use mathlib.Core.Bool.{Bool, true, false}
 use mathlib.Core.List.{List, [], _∷_}
 use lib.ListN.{length}
@@ -32,7 +32,7 @@ use Rattle.rules.specs.Calls.{powerCall, replied, packetHeard, meantBody
 use Rattle.rules.specs.World.{World, world, Call, power, packet, put, word, lone, samples, Told, Stepped, overTables, overRoom, overStore, overDesk, overSent, overFrames, step, next, Point, tells}
 use Rattle.rules.specs.Pairs.{SizesAlike, sizesIn}
 use Rattle.rules.proofs.Stores.{store-same}
-use Rattle.rules.proofs.Lone.{lone-rows}
+use Rattle.rules.proofs.Lone.{rows-alike}
 use Rattle.rules.proofs.Happens.{wording}
 use Rattle.rules.proofs.WordRows.{rowed}
 use Rattle.rules.proofs.Fares.{fares}
@@ -177,7 +177,7 @@ module _ (p : Pod) (q : Params) (a o : Ring) (l m : Lent) (sizes : sizesIn l ≡
   steps-alike (put s b) = put-alike s b
   steps-alike (word c) = ran-two (λ o q. TellAlike (overDesk o w₁) (overDesk q w₂)) (rw (word-rows c, first, second)) (λ n. same) (λ k. word-alike c)
   steps-alike (lone c) =
-      ran-two (λ o q. TellAlike (overSent o w₁) (overSent q w₂)) (rw (lone-rows c p, lone-rows c r, first, second)) (λ n. same)
+      ran-two (λ o q. TellAlike (overSent o w₁) (overSent q w₂)) (rows-alike c p r (first ∙ sym second) refl refl) (λ n. same)
       (λ k. stays (reached (loneOf c (reachOf p)) p .pod) off)
   steps-alike (samples k xs) = ran-two (λ o q. TellAlike (overFrames o w₁) (overFrames q w₂)) (rw (first, second)) (λ n. same) (λ k. same)
 

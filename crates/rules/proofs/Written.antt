@@ -68,7 +68,7 @@ module _ (id : ℕ) (i : isId id ≡ true) where
   value-kept w _ _ (acknowledged first one k) v h = rw (acknowledged-untouched first one (w .pod) .params) h
   value-kept w _ _ (shelved s b k) v h = h
   value-kept w _ _ (spoken c k) v h = h
-  value-kept w _ _ (touched t k) v h = h
+  value-kept w _ _ (touched c k) v h = h
 
   pub value-is : (l : Lent) (cs : List Call)
       → valueAt (final (powered l) cs .pod .params) id ≡ fold (valueBy id) (paramRow id .start) (events (powered l) cs)
@@ -98,7 +98,7 @@ module _ (id : ℕ) (i : isId id ≡ true) where
   mark-kept w _ _ (acknowledged first one k) m h = rw (acknowledged-untouched first one (w .pod) .params) h
   mark-kept w _ _ (shelved s b k) m h = h
   mark-kept w _ _ (spoken c k) m h = h
-  mark-kept w _ _ (touched t k) m h = h
+  mark-kept w _ _ (touched c k) m h = h
 
   pub mark-is : (l : Lent) (cs : List Call) → marked (final (powered l) cs .pod .params) id ≡ fold (markBy id) false (events (powered l) cs)
   unfolding freshPod
