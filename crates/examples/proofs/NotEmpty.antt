@@ -30,6 +30,7 @@ use Rattle.orders.specs.Command.{oddOnes, partsOf, orderOf, orderHeard}
 use Rattle.tables.specs.Port.{header, startWords, closeOf, readOpenedAt, readOpened, restarted, orderObeyed, tablesAfter, commandOf, wrongWay, loadRight, storedIn, loadJudged, loadOf, wordTaken, dataInOf, readWord, readNext, wordGiven, dataOutOf, statusOf}
 use Rattle.tables.specs.Tables.{Three, listed, startTable, tablesSized}
 use Rattle.pipe.specs.Input.{heldIn, sentPacket, sentBytes, emptyInput, freshInput, gathers, pipeByte, countUp, pipeTimeout, soundInput, gatheringOf}
+use Rattle.pipe.specs.Output.{freshOutput, outputTimeout, soundOutput, busyOf}
 use Rattle.pipe.specs.Pipe.{freshPipe, soundPipe}
 use Rattle.frames.specs.Fields.{placed, frame}
 use Rattle.frames.specs.Layout.{lines03, lines47, framesOf}
@@ -144,7 +145,7 @@ pub record NotEmpty : Type 0 where
   pub numbers : Edges
 
 pub not-empty : NotEmpty
-unfolding ones ran poly leaving bitIn bits bitsIn crcFrom crcOf withCrc answerOf errorAnswer statusBody valueBody fieldBytes bodyOf commandBytes laidOut numbersAt fieldsOf fieldsIn fieldsBounded findIn listedIn codeRow isCode commandPlace commandRow highFirst numberOf numberAt signedOf unsignedOf crcRight acknowledges packetRead isId inRows soundParams startParams writeAllowed filter missingIds missingOf storeSized soundRing placeBehind blockAt blocksFrom blocksIn oldestOf putRing putStore droppedRing soundPlaces soundTransfer soundWords oddOnes partsOf orderOf orderHeard startWords closeOf readOpenedAt readOpened restarted orderObeyed tablesAfter commandOf wrongWay loadRight storedIn loadJudged loadOf wordTaken dataInOf readWord readNext wordGiven dataOutOf statusOf listed startTable tablesSized heldIn sentPacket sentBytes emptyInput freshInput gathers pipeByte countUp pipeTimeout soundInput gatheringOf freshPipe soundPipe placed frame lines03 lines47 framesOf sampleAt sumOf averageOf averagesOf boundedOf powerCall packetHeard meantBody replyBytes spokenBytes answered packetCall putCall wordCall loneCall samplesCall wordOf wordLent pipeOf loneOf succeeded errored eventOf events checksOf initialisedPod doneBy obeyOf matches dropFrom settled acknowledgedOf reportOf justInitialised freshFields freshPod restful soundPod cuts leftOpen writtenIn readsIn step final tells
+unfolding ones ran poly leaving bitIn bits bitsIn crcFrom crcOf withCrc answerOf errorAnswer statusBody valueBody fieldBytes bodyOf commandBytes laidOut numbersAt fieldsOf fieldsIn fieldsBounded findIn listedIn codeRow isCode commandPlace commandRow highFirst numberOf numberAt signedOf unsignedOf crcRight acknowledges packetRead isId inRows soundParams startParams writeAllowed filter missingIds missingOf storeSized soundRing placeBehind blockAt blocksFrom blocksIn oldestOf putRing putStore droppedRing soundPlaces soundTransfer soundWords oddOnes partsOf orderOf orderHeard startWords closeOf readOpenedAt readOpened restarted orderObeyed tablesAfter commandOf wrongWay loadRight storedIn loadJudged loadOf wordTaken dataInOf readWord readNext wordGiven dataOutOf statusOf listed startTable tablesSized heldIn sentPacket sentBytes emptyInput freshInput gathers pipeByte countUp pipeTimeout soundInput freshOutput soundOutput busyOf outputTimeout gatheringOf freshPipe soundPipe placed frame lines03 lines47 framesOf sampleAt sumOf averageOf averagesOf boundedOf powerCall packetHeard meantBody replyBytes spokenBytes answered packetCall putCall wordCall loneCall samplesCall wordOf wordLent pipeOf loneOf succeeded errored eventOf events checksOf initialisedPod doneBy obeyOf matches dropFrom settled acknowledgedOf reportOf justInitialised freshFields freshPod restful soundPod cuts leftOpen writtenIn readsIn step final tells
 not-empty =
     let busy-seen : seenIn busy ≡ seenBoth true = refl in
     let other-seen : seenIn other ≡ seenBoth true = refl in

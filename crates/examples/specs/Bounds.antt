@@ -75,7 +75,7 @@ fielded mode ms pl pr ml mr poll =
     withFields (record { mode = mode; flags = 0; seconds = 0; milliseconds = ms; prioritylimit = pl; priorityremaining = pr; memorylimit = ml; memoryremaining = mr; poll = poll })
 
 abbrev pub gathering : ℕ → Pod → Pod
-gathering n = withPipe (record { input = record { bytes = replicate 8 0; gathered = n; timeouts = 15 } })
+gathering n p = withPipe (record { input = record { bytes = replicate 8 0; gathered = n; timeouts = 15 }; output = p .pipe .output }) p
 
 abbrev pub placed : ℕ → ℕ → ℕ → Pod → Pod
 placed a b c = withWords (withPlaces (record { five = a; six = b; seven = c }) startWords)

@@ -24,7 +24,7 @@ refusalIn w c = refusedBy (step w c .told .said)
 
 -- so many timeouts counted; the tables gone; so many blocks waiting
 abbrev pub counting : ℕ → World → World
-counting n w = withPod (withPipe (record { input = record { bytes = replicate 8 0; gathered = 0; timeouts = n } }) (w .pod)) w
+counting n w = withPod (withPipe (record { input = record { bytes = replicate 8 0; gathered = 0; timeouts = n }; output = w .pod .pipe .output }) (w .pod)) w
 
 abbrev pub bare : World → World
 bare w = record { pod = w .pod; lent = withTables (three [] [] []) (w .lent) }

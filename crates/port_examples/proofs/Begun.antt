@@ -18,6 +18,7 @@ use Rattle.orders.specs.Command.{oddOnes, partsOf, orderOf, orderHeard}
 use Rattle.tables.specs.Port.{startWords, closeOf, readOpenedAt, readOpened, restarted, orderObeyed, tablesAfter, commandOf, wrongWay, loadRight, storedIn, loadJudged, loadOf, wordTaken, dataInOf, readWord, readNext, wordGiven, dataOutOf, statusOf}
 use Rattle.tables.specs.Tables.{listed, startTable, tablesSized}
 use Rattle.pipe.specs.Input.{emptyInput, freshInput, soundInput}
+use Rattle.pipe.specs.Output.{freshOutput, soundOutput}
 use Rattle.pipe.specs.Pipe.{freshPipe, soundPipe}
 use Rattle.rules.specs.Calls.{powerCall, packetHeard, meantBody, replyBytes, spokenBytes, answered, packetCall, wordCall}
 use Rattle.rules.specs.Families.{wordOf, wordLent}
@@ -32,5 +33,5 @@ abbrev pub awakened : World
 awakened = world (initialisedPod freshFields) blank
 
 pub begun : justInitialised ≡ awakened
-unfolding ran poly leaving bitIn bits bitsIn crcFrom crcOf withCrc answerOf fieldBytes bodyOf commandBytes laidOut numbersAt fieldsOf fieldsIn fieldsBounded findIn listedIn codeRow isCode commandPlace commandRow highFirst numberOf numberAt crcRight acknowledges packetRead inRows soundParams startParams storeSized soundRing soundPlaces soundTransfer soundWords startWords listed startTable tablesSized emptyInput freshInput soundInput freshPipe soundPipe powerCall packetHeard meantBody replyBytes spokenBytes answered packetCall checksOf initialisedPod doneBy obeyOf justInitialised freshFields freshPod restful soundPod step
+unfolding ran poly leaving bitIn bits bitsIn crcFrom crcOf withCrc answerOf fieldBytes bodyOf commandBytes laidOut numbersAt fieldsOf fieldsIn fieldsBounded findIn listedIn codeRow isCode commandPlace commandRow highFirst numberOf numberAt crcRight acknowledges packetRead inRows soundParams startParams storeSized soundRing soundPlaces soundTransfer soundWords startWords listed startTable tablesSized emptyInput freshInput soundInput freshOutput soundOutput freshPipe soundPipe powerCall packetHeard meantBody replyBytes spokenBytes answered packetCall checksOf initialisedPod doneBy obeyOf justInitialised freshFields freshPod restful soundPod step
 begun = refl
