@@ -1,4 +1,3 @@
-pub mod Words
 pub mod Packets
 pub mod Acknowledgements
 pub mod PortExamples

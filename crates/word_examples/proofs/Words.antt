@@ -25,9 +25,9 @@ use Rattle.rules.specs.Families.{wordOf, wordLent}
 use Rattle.rules.specs.Obey.{checksOf, initialisedPod, doneBy, obeyOf}
 use Rattle.rules.specs.State.{freshFields, freshPod, restful, soundPod}
 use Rattle.rules.specs.World.{World, step, final, tells}
-use Rattle.examples.specs.Shown.{justInitialised, AsExpected}
-use Rattle.port_examples.proofs.Begun.{awakened, begun}
-use Rattle.port_examples.specs.Words.{words, closings, WordsComputed}
+use Rattle.examples.specs.Shown.{AsExpected}
+use Rattle.word_examples.proofs.Begun.{awakened, begun}
+use Rattle.word_examples.specs.Words.{words, closings, WordsComputed}
 
 told-words : (x y z : ℕ) → AsExpected (words awakened x y z)
 unfolding flatten ones ran poly leaving bitIn bits bitsIn crcFrom crcOf withCrc answerOf fieldBytes bodyOf commandBytes laidOut numbersAt fieldsOf fieldsIn fieldsBounded findIn listedIn codeRow isCode commandPlace commandRow highFirst numberOf numberAt crcRight acknowledges packetRead inRows soundParams startParams storeSized soundRing soundPlaces soundTransfer soundWords oddOnes partsOf orderOf orderHeard startWords closeOf readOpenedAt readOpened orderObeyed tablesAfter commandOf wrongWay loadRight storedIn loadJudged loadOf wordTaken dataInOf readWord readNext wordGiven dataOutOf statusOf listed startTable tablesSized emptyInput freshInput soundInput freshOutput soundOutput freshPipe soundPipe powerCall packetHeard meantBody replyBytes spokenBytes answered packetCall wordCall wordOf wordLent checksOf initialisedPod doneBy obeyOf freshFields freshPod restful soundPod step final tells
