@@ -14,7 +14,7 @@ use Rattle.tables.specs.Bounds.{soundPlaces, soundTransfer, soundWords}
 use Rattle.tables.specs.Port.{startWords, closeOf, statusOf}
 use Rattle.tables.specs.Tables.{listed, startTable, tablesSized}
 use Rattle.pipe.specs.Input.{emptyInput, freshInput, soundInput, heldIn, sentPacket, sentBytes, gathers, pipeByte, countUp, pipeTimeout, gatheringOf}
-use Rattle.pipe.specs.Output.{freshOutput, outputTimeout, soundOutput}
+use Rattle.pipe.specs.Output.{heldOut, freshOutput, outputPacket, outputTaken, outputTimeout, soundOutput, busyOf}
 use Rattle.pipe.specs.Pipe.{freshPipe, soundPipe}
 use Rattle.rules.specs.Calls.{powerCall, packetHeard, meantBody, replyBytes, spokenBytes, answered, packetCall, putCall, wordCall, loneCall, samplesCall}
 use Rattle.rules.specs.Obey.{checksOf, initialisedPod, doneBy, obeyOf, matches, settled, acknowledgedOf, reportOf, dropFrom}
@@ -46,12 +46,12 @@ unfolding ran poly leaving bitIn bits bitsIn crcFrom crcOf withCrc answerOf erro
 stored = refl
 
 exchanged : AsExpected exchanges
-unfolding ran poly leaving bitIn bits bitsIn crcFrom crcOf withCrc answerOf errorAnswer fieldBytes bodyOf commandBytes laidOut numbersAt fieldsOf fieldsIn fieldsBounded findIn listedIn codeRow isCode commandPlace commandRow highFirst numberOf numberAt crcRight acknowledges packetRead inRows soundParams startParams storeSized soundRing soundPlaces soundTransfer soundWords startWords closeOf listed startTable tablesSized heldIn sentPacket sentBytes emptyInput freshInput gathers pipeByte countUp pipeTimeout soundInput freshOutput soundOutput outputTimeout gatheringOf freshPipe soundPipe powerCall packetHeard meantBody replyBytes spokenBytes answered packetCall loneCall pipeOf loneOf checksOf initialisedPod doneBy obeyOf justInitialised freshFields freshPod restful soundPod step final tells placeBehind blockAt blocksFrom blocksIn oldestOf putRing putStore droppedRing putCall matches dropFrom settled acknowledgedOf
+unfolding ran poly leaving bitIn bits bitsIn crcFrom crcOf withCrc answerOf errorAnswer fieldBytes bodyOf commandBytes laidOut numbersAt fieldsOf fieldsIn fieldsBounded findIn listedIn codeRow isCode commandPlace commandRow highFirst numberOf numberAt crcRight acknowledges packetRead inRows soundParams startParams storeSized soundRing soundPlaces soundTransfer soundWords startWords closeOf listed startTable tablesSized heldIn sentPacket sentBytes emptyInput freshInput gathers pipeByte countUp pipeTimeout soundInput gatheringOf freshOutput outputTimeout soundOutput freshPipe soundPipe powerCall packetHeard meantBody replyBytes spokenBytes answered packetCall loneCall pipeOf loneOf checksOf initialisedPod doneBy obeyOf justInitialised freshFields freshPod restful soundPod step final tells placeBehind blockAt blocksFrom blocksIn oldestOf putRing putStore droppedRing putCall matches dropFrom settled acknowledgedOf
 exchanged = refl
 
 -- whichever exchange is open
 opened : (x : Exchange) → (openThen (lone deadline ∷ []) x ≡ Closed) × (openThen beside x ≡ x)
-unfolding ran crcFrom packetRead fieldsBounded inRows soundParams startParams storeSized soundRing soundPlaces soundTransfer soundWords startWords statusOf listed startTable tablesSized heldIn sentPacket sentBytes emptyInput freshInput gathers pipeByte countUp pipeTimeout soundInput freshOutput soundOutput outputTimeout freshPipe soundPipe boundedOf packetHeard spokenBytes answered packetCall wordCall loneCall samplesCall wordOf wordLent pipeOf loneOf initialisedPod freshPod restful soundPod step final putRing putStore placeBehind putCall
+unfolding ran crcFrom packetRead fieldsBounded inRows soundParams startParams storeSized soundRing soundPlaces soundTransfer soundWords startWords statusOf listed startTable tablesSized heldIn sentPacket sentBytes emptyInput freshInput gathers pipeByte countUp pipeTimeout soundInput heldOut freshOutput outputPacket outputTaken outputTimeout soundOutput busyOf freshPipe soundPipe boundedOf packetHeard spokenBytes answered packetCall wordCall loneCall samplesCall wordOf wordLent pipeOf loneOf initialisedPod freshPod restful soundPod step final putRing putStore placeBehind putCall
 opened x = (refl, refl)
 
 pub all-packets : Packets

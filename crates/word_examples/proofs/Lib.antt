@@ -1,3 +1,2 @@
-pub mod Begun
 pub mod Words
 pub mod WordExamples

@@ -26,7 +26,7 @@ use Rattle.rules.specs.Obey.{checksOf, initialisedPod, doneBy, obeyOf}
 use Rattle.rules.specs.State.{freshFields, freshPod, restful, soundPod}
 use Rattle.rules.specs.World.{World, step, final, tells}
 use Rattle.examples.specs.Shown.{AsExpected}
-use Rattle.word_examples.proofs.Begun.{awakened, begun}
+use Rattle.examples.proofs.Begun.{awakened, begun}
 use Rattle.word_examples.specs.Words.{words, closings, WordsComputed}
 
 told-words : (x y z : ℕ) → AsExpected (words awakened x y z)
