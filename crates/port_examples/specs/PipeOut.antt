@@ -165,7 +165,7 @@ bothHalves =
     ∷ yields taken (0xA3 ∷ [])
     ∷ [])
 
--- ---- what outlasts it, and what does not
+-- ---- what keeps the bytes in hand and the count, and what empties this half
 
 abbrev pub outlasting : List TalkTurn
 outlasting =
