@@ -15,8 +15,8 @@ PROOFS = {'Shown': 'all-shown', 'Computed': 'all-computed', 'Edges': 'all-edges'
 # crates that hand on what others promise, or promise no more than to end: docs/PROMISES.md, 'Looser promises'
 BESIDE = ('pod', 'line_loop', 'aircraft_loop', 'vectors', 'repeats')
 # the crates that have statements, each with the record that holds all of them
-WHOLE = {'rules': 'Whole', 'examples': 'Examples', 'port_examples': 'PortExamples', 'airframe': 'Statements', 'both_ends': 'Ends',
-         'aircraft_lines': 'Statements', 'aircraft_answers': 'Statements', 'tolmezha': 'Statements'}
+WHOLE = {'rules': 'Whole', 'examples': 'Examples', 'port_examples': 'PortExamples', 'word_examples': 'WordExamples', 'airframe': 'Statements',
+         'both_ends': 'Ends', 'aircraft_lines': 'Statements', 'aircraft_answers': 'Statements', 'tolmezha': 'Statements'}
 # a wrong rule with a name, and the facts that fail of it and of no other rule in its edit
 RULE = re.compile(r'^# (\w+): .*\n# refused at: (.*)$', re.M)
 HEAD = re.compile(r'^\s*(?:pub )?(?:extern "C" )?fn (\w+)', re.M)

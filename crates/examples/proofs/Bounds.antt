@@ -10,6 +10,7 @@ use Rattle.tables.specs.Bounds.{soundPlaces, soundTransfer, soundWords}
 use Rattle.tables.specs.Port.{startWords}
 use Rattle.tables.specs.Tables.{listed, startTable, tablesSized}
 use Rattle.pipe.specs.Input.{emptyInput, freshInput, soundInput}
+use Rattle.pipe.specs.Output.{freshOutput, soundOutput}
 use Rattle.pipe.specs.Pipe.{freshPipe, soundPipe}
 use Rattle.frames.specs.Samples.{boundedOf}
 use Rattle.rules.specs.Calls.{powerCall, packetHeard, spokenBytes, answered, packetCall, loneCall, samplesCall}
@@ -23,11 +24,11 @@ unfolding startParams
 all-starts = refl
 
 pub all-values : AsExpected valuesBounded
-unfolding ran isId inRows soundParams startParams writeAllowed soundRing soundPlaces soundTransfer soundWords startWords tablesSized emptyInput freshInput soundInput freshPipe soundPipe powerCall loneCall freshFields freshPod restful soundPod fieldsBounded step
+unfolding ran isId inRows soundParams startParams writeAllowed soundRing soundPlaces soundTransfer soundWords startWords tablesSized emptyInput freshInput soundInput freshOutput soundOutput freshPipe soundPipe powerCall loneCall freshFields freshPod restful soundPod fieldsBounded step
 all-values = refl
 
 pub all-rest : AsExpected bounds
-unfolding ran inRows soundParams startParams storeSized soundRing soundPlaces soundTransfer soundWords startWords listed startTable tablesSized emptyInput freshInput soundInput freshPipe soundPipe boundedOf packetRead packetHeard spokenBytes answered powerCall packetCall loneCall samplesCall freshFields freshPod restful soundPod fieldsBounded step
+unfolding ran inRows soundParams startParams storeSized soundRing soundPlaces soundTransfer soundWords startWords listed startTable tablesSized emptyInput freshInput soundInput freshOutput soundOutput freshPipe soundPipe boundedOf packetRead packetHeard spokenBytes answered powerCall packetCall loneCall samplesCall freshFields freshPod restful soundPod fieldsBounded step
 all-rest = refl
 
 pub all-bounds : Bounds

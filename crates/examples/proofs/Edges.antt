@@ -1,29 +1,39 @@
 -- Which refusals come where, by computation.
 -- Assumes nothing.
-use mathlib.Core.Path.{refl}
+use mathlib.Core.Path.{refl, sym, subst}
+use mathlib.Core.List.{flatten}
 use Rattle.rows.specs.Rows.{ran}
-use Rattle.crc.specs.Crc.{poly, leaving, bitIn, bits, bitsIn, crcFrom, crcOf}
-use Rattle.packets.specs.Answers.{withCrc, answerOf, fieldBytes, bodyOf, commandBytes}
-use Rattle.packets.specs.Commands.{fieldsOf, fieldsIn, fieldsBounded, findIn, listedIn, codeRow, isCode, commandPlace, commandRow}
-use Rattle.numbers.specs.Layout.{laidOut, numbersAt}
-use Rattle.numbers.specs.Numbers.{highFirst, numberOf, numberAt}
-use Rattle.packets.specs.Reading.{crcRight, acknowledges, packetRead}
-use Rattle.params.specs.Rules.{isId, inRows, soundParams, startParams}
-use Rattle.blocks.specs.Stores.{storeSized, soundRing, putRing}
+use Rattle.packets.specs.Commands.{fieldsBounded}
+use Rattle.packets.specs.Reading.{packetRead}
+use Rattle.params.specs.Rules.{inRows, soundParams, startParams}
+use Rattle.blocks.specs.Stores.{storeSized, soundRing}
 use Rattle.tables.specs.Bounds.{soundPlaces, soundTransfer, soundWords}
-use Rattle.tables.specs.Port.{startWords, statusOf}
+use Rattle.tables.specs.Port.{startWords}
 use Rattle.tables.specs.Tables.{listed, startTable, tablesSized}
-use Rattle.pipe.specs.Input.{sentPacket, sentBytes, emptyInput, freshInput, pipeByte, soundInput}
+use Rattle.pipe.specs.Input.{emptyInput, freshInput, soundInput}
+use Rattle.pipe.specs.Output.{freshOutput, soundOutput, busyOf}
 use Rattle.pipe.specs.Pipe.{freshPipe, soundPipe}
 use Rattle.frames.specs.Samples.{boundedOf}
-use Rattle.rules.specs.Calls.{powerCall, packetHeard, meantBody, replyBytes, spokenBytes, answered, packetCall, putCall, wordCall, loneCall, samplesCall}
-use Rattle.rules.specs.Families.{wordOf, wordLent}
-use Rattle.rules.specs.Obey.{checksOf, initialisedPod, doneBy, obeyOf}
-use Rattle.examples.specs.Shown.{justInitialised}
+use Rattle.rules.specs.Calls.{powerCall, packetHeard, spokenBytes, answered, packetCall, putCall, wordCall, loneCall, samplesCall}
+use Rattle.rules.specs.Families.{wordLent}
+use Rattle.rules.specs.Obey.{initialisedPod}
+use Rattle.examples.proofs.Begun.{awakened, begun}
 use Rattle.rules.specs.State.{freshFields, freshPod, restful, soundPod}
-use Rattle.rules.specs.World.{step}
-use Rattle.examples.specs.Edges.{Edges}
+use Rattle.rules.specs.World.{World, step}
+use Rattle.examples.specs.Shown.{AsExpected}
+use Rattle.examples.specs.Edges.{edges, outwardEdges, Edges}
+
+told-edges : AsExpected (edges awakened)
+unfolding ran inRows soundParams startParams storeSized soundRing soundPlaces soundTransfer soundWords startWords listed startTable tablesSized emptyInput freshInput soundInput freshOutput soundOutput freshPipe soundPipe boundedOf packetRead packetHeard spokenBytes answered powerCall packetCall putCall wordCall loneCall samplesCall wordLent initialisedPod freshFields freshPod restful soundPod fieldsBounded step
+told-edges = refl
+
+outward-edges : AsExpected (outwardEdges awakened)
+unfolding flatten ran inRows soundParams startParams storeSized soundRing soundPlaces soundTransfer soundWords startWords listed startTable tablesSized emptyInput freshInput soundInput freshOutput soundOutput busyOf freshPipe soundPipe boundedOf packetRead packetHeard spokenBytes answered powerCall packetCall putCall wordCall loneCall samplesCall wordLent initialisedPod freshFields freshPod restful soundPod fieldsBounded step
+outward-edges = refl
 
 pub all-edges : Edges
-unfolding ran poly leaving bitIn bits bitsIn crcFrom crcOf withCrc answerOf fieldBytes bodyOf commandBytes laidOut numbersAt fieldsOf fieldsIn fieldsBounded findIn listedIn codeRow isCode commandPlace commandRow highFirst numberOf numberAt crcRight acknowledges packetRead isId inRows soundParams startParams storeSized soundRing putRing soundPlaces soundTransfer soundWords startWords statusOf listed startTable tablesSized sentPacket sentBytes emptyInput freshInput pipeByte soundInput freshPipe soundPipe boundedOf powerCall packetHeard meantBody replyBytes spokenBytes answered packetCall putCall wordCall loneCall samplesCall wordOf wordLent checksOf initialisedPod doneBy obeyOf justInitialised freshFields freshPod restful soundPod step
-all-edges = refl
+all-edges =
+    record {
+      numbers = subst (λ (w : World). AsExpected (edges w)) (sym begun) told-edges;
+      outward = subst (λ (w : World). AsExpected (outwardEdges w)) (sym begun) outward-edges;
+    }

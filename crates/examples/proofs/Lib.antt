@@ -1,3 +1,4 @@
+pub mod Begun
 pub mod Shown
 pub mod Edges
 pub mod NotEmpty

@@ -30,12 +30,13 @@ use Rattle.orders.specs.Command.{oddOnes, partsOf, orderOf, orderHeard}
 use Rattle.tables.specs.Port.{header, startWords, closeOf, readOpenedAt, readOpened, restarted, orderObeyed, tablesAfter, commandOf, wrongWay, loadRight, storedIn, loadJudged, loadOf, wordTaken, dataInOf, readWord, readNext, wordGiven, dataOutOf, statusOf}
 use Rattle.tables.specs.Tables.{Three, listed, startTable, tablesSized}
 use Rattle.pipe.specs.Input.{heldIn, sentPacket, sentBytes, emptyInput, freshInput, gathers, pipeByte, countUp, pipeTimeout, soundInput, gatheringOf}
+use Rattle.pipe.specs.Output.{heldOut, freshOutput, outputPacket, outputTaken, outputTimeout, soundOutput, busyOf}
 use Rattle.pipe.specs.Pipe.{freshPipe, soundPipe}
 use Rattle.frames.specs.Fields.{placed, frame}
 use Rattle.frames.specs.Layout.{lines03, lines47, framesOf}
 use Rattle.frames.specs.Samples.{sampleAt, sumOf, averageOf, averagesOf, boundedOf}
 use Rattle.rules.specs.Calls.{powerCall, packetHeard, meantBody, replyBytes, spokenBytes, answered, packetCall, putCall, wordCall, loneCall, samplesCall}
-use Rattle.rules.specs.Families.{WordCall, command, dataIn, dataOut, status, byte, timeout, wordOf, wordLent, pipeOf, deadline, pipe, loneOf}
+use Rattle.rules.specs.Families.{WordCall, command, dataIn, dataOut, status, byte, timeout, packetOut, taken, wordOf, wordLent, pipeOf, deadline, pipe, loneOf}
 use Rattle.rules.specs.History.{succeeded, errored, eventOf, events}
 use Rattle.rules.specs.Obey.{checksOf, initialisedPod, doneBy, obeyOf, matches, dropFrom, settled, acknowledgedOf, reportOf}
 use Rattle.examples.specs.Shown.{order, loading, reading, load, justInitialised}
@@ -84,11 +85,11 @@ seenBoth on =
     }
 
 -- calls that leave a transfer open, a word of it coming between them three times: a packet answered, one damaged, one refused, an
--- Initialise and a put not accepted, a put, the deadline, the status word, a byte and its timeout, samples
+-- Initialise and a put not accepted, a put, the deadline, the status word, each pipe call, samples
 abbrev between : List Call → List Call → List Call → List Call
 between a b c =
     (asks asked.Status ∷ a) ++ (packet (0x91 ∷ []) (replicate 260 0) ∷ packet [] [] ∷ asks (asked.Initialise unfit) ∷ b)
-    ++ (put Priority [] ∷ put Priority (replicate 256 7) ∷ lone deadline ∷ word status ∷ lone (pipe (byte 1)) ∷ lone (pipe timeout) ∷ samples 0 (replicate 128 0) ∷ c)
+    ++ (put Priority [] ∷ put Priority (replicate 256 7) ∷ lone deadline ∷ word status ∷ lone (pipe (byte 1)) ∷ lone (pipe (packetOut (replicate 8 1))) ∷ lone (pipe taken) ∷ lone (pipe timeout) ∷ samples 0 (replicate 128 0) ∷ c)
 
 abbrev amidLoad : List Call
 amidLoad = between (loading (5 ∷ [])) (loading (63 ∷ [])) (loading (1 ∷ []))
@@ -144,7 +145,7 @@ pub record NotEmpty : Type 0 where
   pub numbers : Edges
 
 pub not-empty : NotEmpty
-unfolding ones ran poly leaving bitIn bits bitsIn crcFrom crcOf withCrc answerOf errorAnswer statusBody valueBody fieldBytes bodyOf commandBytes laidOut numbersAt fieldsOf fieldsIn fieldsBounded findIn listedIn codeRow isCode commandPlace commandRow highFirst numberOf numberAt signedOf unsignedOf crcRight acknowledges packetRead isId inRows soundParams startParams writeAllowed filter missingIds missingOf storeSized soundRing placeBehind blockAt blocksFrom blocksIn oldestOf putRing putStore droppedRing soundPlaces soundTransfer soundWords oddOnes partsOf orderOf orderHeard startWords closeOf readOpenedAt readOpened restarted orderObeyed tablesAfter commandOf wrongWay loadRight storedIn loadJudged loadOf wordTaken dataInOf readWord readNext wordGiven dataOutOf statusOf listed startTable tablesSized heldIn sentPacket sentBytes emptyInput freshInput gathers pipeByte countUp pipeTimeout soundInput gatheringOf freshPipe soundPipe placed frame lines03 lines47 framesOf sampleAt sumOf averageOf averagesOf boundedOf powerCall packetHeard meantBody replyBytes spokenBytes answered packetCall putCall wordCall loneCall samplesCall wordOf wordLent pipeOf loneOf succeeded errored eventOf events checksOf initialisedPod doneBy obeyOf matches dropFrom settled acknowledgedOf reportOf justInitialised freshFields freshPod restful soundPod cuts leftOpen writtenIn readsIn step final tells
+unfolding ones ran poly leaving bitIn bits bitsIn crcFrom crcOf withCrc answerOf errorAnswer statusBody valueBody fieldBytes bodyOf commandBytes laidOut numbersAt fieldsOf fieldsIn fieldsBounded findIn listedIn codeRow isCode commandPlace commandRow highFirst numberOf numberAt signedOf unsignedOf crcRight acknowledges packetRead isId inRows soundParams startParams writeAllowed filter missingIds missingOf storeSized soundRing placeBehind blockAt blocksFrom blocksIn oldestOf putRing putStore droppedRing soundPlaces soundTransfer soundWords oddOnes partsOf orderOf orderHeard startWords closeOf readOpenedAt readOpened restarted orderObeyed tablesAfter commandOf wrongWay loadRight storedIn loadJudged loadOf wordTaken dataInOf readWord readNext wordGiven dataOutOf statusOf listed startTable tablesSized heldIn sentPacket sentBytes emptyInput freshInput gathers pipeByte countUp pipeTimeout soundInput gatheringOf heldOut freshOutput outputPacket outputTaken outputTimeout soundOutput busyOf freshPipe soundPipe placed frame lines03 lines47 framesOf sampleAt sumOf averageOf averagesOf boundedOf powerCall packetHeard meantBody replyBytes spokenBytes answered packetCall putCall wordCall loneCall samplesCall wordOf wordLent pipeOf loneOf succeeded errored eventOf events checksOf initialisedPod doneBy obeyOf matches dropFrom settled acknowledgedOf reportOf justInitialised freshFields freshPod restful soundPod cuts leftOpen writtenIn readsIn step final tells
 not-empty =
     let busy-seen : seenIn busy ≡ seenBoth true = refl in
     let other-seen : seenIn other ≡ seenBoth true = refl in

@@ -22,7 +22,7 @@ use Rattle.rules.specs.Families.{deadline}
 use Rattle.rules.specs.World.{World, world, withPod, packet, lone, samples, isAnswered}
 use Rattle.rules.specs.Demands.{justPowered}
 use Rattle.examples.specs.Shown.{ComputedLine, line, AsExpected}
-use Rattle.examples.specs.Edges.{refusalIn}
+use Rattle.examples.specs.Edges.{refusalIn, outward}
 
 -- ---- the parameters
 
@@ -75,7 +75,7 @@ fielded mode ms pl pr ml mr poll =
     withFields (record { mode = mode; flags = 0; seconds = 0; milliseconds = ms; prioritylimit = pl; priorityremaining = pr; memorylimit = ml; memoryremaining = mr; poll = poll })
 
 abbrev pub gathering : ℕ → Pod → Pod
-gathering n = withPipe (record { input = record { bytes = replicate 8 0; gathered = n; timeouts = 15 } })
+gathering n p = withPipe (record { input = record { bytes = replicate 8 0; gathered = n; timeouts = 15 }; output = p .pipe .output }) p
 
 abbrev pub placed : ℕ → ℕ → ℕ → Pod → Pod
 placed a b c = withWords (withPlaces (record { five = a; six = b; seven = c }) startWords)
@@ -91,6 +91,7 @@ kept =
     ∷ fielded 3 999 5 5 7 7 60000
     ∷ fielded 0 0 0 0 0 0 1
     ∷ gathering 7
+    ∷ outward 8 15
     ∷ placed 64 128 64
     ∷ moving (Load (header Five 4) 3)
     ∷ moving (Load (header Five 64) 63)
@@ -116,6 +117,9 @@ onePast =
     ∷ fielded 0 0 0 0 0 0 0
     -- "0 to 7 bytes gathered"; "each read place at most its table's size"
     ∷ gathering 8
+    -- request No. 3, "0 to 8 bytes in hand, and output timeouts 0 to 15"
+    ∷ outward 9 15
+    ∷ outward 8 16
     ∷ placed 65 128 64
     ∷ placed 64 129 64
     ∷ placed 64 128 65

@@ -1,5 +1,4 @@
-pub mod Begun
-pub mod Words
 pub mod Packets
 pub mod Acknowledgements
+pub mod PipeOut
 pub mod PortExamples

@@ -1,4 +1,4 @@
-pub mod Words
 pub mod Packets
 pub mod Acknowledgements
+pub mod PipeOut
 pub mod PortExamples

@@ -13,7 +13,7 @@ use Rattle.rules.specs.declared.Pod.{Pod}
 use Rattle.rules.specs.State.{withExchange, withRing, withFields, withRemaining, freshPod}
 use Rattle.rules.specs.Obey.{initialisedPod}
 use Rattle.rules.specs.Refusals.{done}
-use Rattle.rules.specs.Families.{status, byte, timeout, deadline, pipe}
+use Rattle.rules.specs.Families.{status, byte, timeout, packetOut, taken, deadline, pipe}
 use Rattle.rules.specs.World.{World, world, Call, power, packet, put, word, lone, samples, told, next, final, tells}
 use Rattle.rules.specs.Demands.{blank}
 use Rattle.rules.specs.Kept.{fieldsListed}
@@ -31,6 +31,13 @@ success code high low = code ∷ 0x01 ∷ 0x7E ∷ high ∷ low ∷ []
 -- an error answer
 abbrev pub fails : ℕ → ℕ → ℕ → ℕ → List ℕ
 fails first n high low = first ∷ 0x09 ∷ n ∷ high ∷ low ∷ []
+
+-- an Initialise, and its success
+abbrev pub wakes : TalkTurn
+wakes =
+    asks
+    (0x90 ∷ 0x01 ∷ 0x01 ∷ 0x12 ∷ 0x34 ∷ 0x00 ∷ 0x00 ∷ 0x14 ∷ 0xFA ∷ 0x00 ∷ 0x04 ∷ 0x00 ∷ 0x02 ∷ 0x00 ∷ 0x00 ∷ 0x00 ∷ 0x09 ∷ 0x00 ∷ 0x00 ∷ 0x00 ∷ 0x01 ∷ 0x03 ∷ 0xE8 ∷ 0x31 ∷ 0x04 ∷ [])
+    (success 0x90 0x18 0xCD)
 
 -- from power on, asleep: what checks 2 to 6 find is told before check 7
 abbrev pub checks : List TalkTurn
@@ -63,9 +70,7 @@ checks =
     ∷ asks (0x90 ∷ 0x09 ∷ 0x94 ∷ 0xCD ∷ []) (fails 0x90 0x3C 0xF9 0xE2)
     ∷ asks (0x90 ∷ 0x09 ∷ replicate 21 0 ++ (0x56 ∷ 0xCA ∷ [])) (fails 0x90 0x3C 0xF9 0xE2)
     -- awake, a block is sent; the 09 form gets no answer and keeps it, and of 4 bytes it is no acknowledgement
-    ∷ asks
-    (0x90 ∷ 0x01 ∷ 0x01 ∷ 0x12 ∷ 0x34 ∷ 0x00 ∷ 0x00 ∷ 0x14 ∷ 0xFA ∷ 0x00 ∷ 0x04 ∷ 0x00 ∷ 0x02 ∷ 0x00 ∷ 0x00 ∷ 0x00 ∷ 0x09 ∷ 0x00 ∷ 0x00 ∷ 0x00 ∷ 0x01 ∷ 0x03 ∷ 0xE8 ∷ 0x31 ∷ 0x04 ∷ [])
-    (success 0x90 0x18 0xCD)
+    ∷ wakes
     ∷ brings Priority 0x11
     ∷ asks (0x95 ∷ 0x01 ∷ 0xEA ∷ 0x30 ∷ []) (0x95 ∷ 0x01 ∷ replicate 256 0x11 ++ (0xE0 ∷ 0xFC ∷ []))
     ∷ asks (0x95 ∷ 0x09 ∷ 0x3A ∷ 0x72 ∷ 0xD4 ∷ []) []
@@ -132,10 +137,18 @@ fetched =
     ∷ asks (0x96 ∷ 0x01 ∷ 0x7E ∷ 0xAA ∷ 0x6D ∷ []) []
     ∷ [])
 
--- a pipe call, a table word, samples, a put and an empty packet
+-- each pipe call, a table word, samples, a put and an empty packet
 abbrev pub beside : List Call
 beside =
-    lone (pipe (byte 9)) ∷ lone (pipe timeout) ∷ word status ∷ samples 0 (replicate 128 0) ∷ put Priority (replicate 256 7) ∷ packet [] (replicate 260 0) ∷ []
+    lone (pipe (byte 9))
+    ∷ lone (pipe (packetOut (replicate 8 9)))
+    ∷ lone (pipe taken)
+    ∷ lone (pipe timeout)
+    ∷ word status
+    ∷ samples 0 (replicate 128 0)
+    ∷ put Priority (replicate 256 7)
+    ∷ packet [] (replicate 260 0)
+    ∷ []
 
 -- a pod: one block and so many more wait in each store, the oldest at its end; one and so many more may still be sent
 pub record Stock : Type 0 where

@@ -1,9 +1,6 @@
 -- A pod just initialised, computed once.
 -- Assumes nothing.
-use Prim.Native.Nat.{ℕ}
 use mathlib.Core.Path.{_≡_, refl}
-use mathlib.Core.List.{flatten}
-use lib.Count.{ones}
 use Rattle.rows.specs.Rows.{ran}
 use Rattle.crc.specs.Crc.{poly, leaving, bitIn, bits, bitsIn, crcFrom, crcOf}
 use Rattle.packets.specs.Answers.{withCrc, answerOf, fieldBytes, bodyOf, commandBytes}
@@ -14,23 +11,21 @@ use Rattle.packets.specs.Reading.{crcRight, acknowledges, packetRead}
 use Rattle.params.specs.Rules.{inRows, soundParams, startParams}
 use Rattle.blocks.specs.Stores.{storeSized, soundRing}
 use Rattle.tables.specs.Bounds.{soundPlaces, soundTransfer, soundWords}
-use Rattle.orders.specs.Command.{oddOnes, partsOf, orderOf, orderHeard}
-use Rattle.tables.specs.Port.{startWords, closeOf, readOpenedAt, readOpened, restarted, orderObeyed, tablesAfter, commandOf, wrongWay, loadRight, storedIn, loadJudged, loadOf, wordTaken, dataInOf, readWord, readNext, wordGiven, dataOutOf, statusOf}
+use Rattle.tables.specs.Port.{startWords}
 use Rattle.tables.specs.Tables.{listed, startTable, tablesSized}
 use Rattle.pipe.specs.Input.{emptyInput, freshInput, soundInput}
+use Rattle.pipe.specs.Output.{freshOutput, soundOutput}
 use Rattle.pipe.specs.Pipe.{freshPipe, soundPipe}
-use Rattle.rules.specs.Calls.{powerCall, packetHeard, meantBody, replyBytes, spokenBytes, answered, packetCall, wordCall}
-use Rattle.rules.specs.Families.{wordOf, wordLent}
+use Rattle.rules.specs.Calls.{powerCall, packetHeard, meantBody, replyBytes, spokenBytes, answered, packetCall}
 use Rattle.rules.specs.Obey.{checksOf, initialisedPod, doneBy, obeyOf}
 use Rattle.rules.specs.State.{freshFields, freshPod, restful, soundPod}
 use Rattle.rules.specs.World.{World, world, step}
 use Rattle.rules.specs.Demands.{blank}
-use Rattle.examples.specs.Shown.{justInitialised, AsExpected}
-use Rattle.port_examples.specs.Words.{words, closings, WordsComputed}
+use Rattle.examples.specs.Shown.{justInitialised}
 
 abbrev pub awakened : World
 awakened = world (initialisedPod freshFields) blank
 
 pub begun : justInitialised ≡ awakened
-unfolding ran poly leaving bitIn bits bitsIn crcFrom crcOf withCrc answerOf fieldBytes bodyOf commandBytes laidOut numbersAt fieldsOf fieldsIn fieldsBounded findIn listedIn codeRow isCode commandPlace commandRow highFirst numberOf numberAt crcRight acknowledges packetRead inRows soundParams startParams storeSized soundRing soundPlaces soundTransfer soundWords startWords listed startTable tablesSized emptyInput freshInput soundInput freshPipe soundPipe powerCall packetHeard meantBody replyBytes spokenBytes answered packetCall checksOf initialisedPod doneBy obeyOf justInitialised freshFields freshPod restful soundPod step
+unfolding ran poly leaving bitIn bits bitsIn crcFrom crcOf withCrc answerOf fieldBytes bodyOf commandBytes laidOut numbersAt fieldsOf fieldsIn fieldsBounded findIn listedIn codeRow isCode commandPlace commandRow highFirst numberOf numberAt crcRight acknowledges packetRead inRows soundParams startParams storeSized soundRing soundPlaces soundTransfer soundWords startWords listed startTable tablesSized emptyInput freshInput soundInput freshOutput soundOutput freshPipe soundPipe powerCall packetHeard meantBody replyBytes spokenBytes answered packetCall checksOf initialisedPod doneBy obeyOf justInitialised freshFields freshPod restful soundPod step
 begun = refl

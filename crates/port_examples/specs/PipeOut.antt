@@ -1,0 +1,252 @@
+-- The output half of the pipe, by computation. Request No. 3: "an eight-byte packet from the aircraft is handed to the camera one byte
+-- at a time, each byte after the last was taken."
+-- Assumes nothing.
+use Prim.Native.Nat.{ℕ, zero, suc}
+use mathlib.Core.Path.{_≡_}
+use mathlib.Core.List.{List, [], _∷_, _++_, map}
+use lib.IntN.{pos}
+use lib.ListN.{length, replicate}
+use lib.Seq.{sets}
+use Rattle.rows.specs.Rows.{refused, gave}
+use Rattle.params.specs.Rules.{startParams, stored}
+use Rattle.orders.specs.declared.Table.the-variants.{Five}
+use Rattle.tables.specs.declared.Transfer.the-variants.{Load}
+use Rattle.tables.specs.Port.{header, startWords, withTransfer}
+use Rattle.pipe.specs.declared.Pipe.{Pipe}
+use Rattle.rules.specs.declared.Exchange.{Exchange}
+use Rattle.rules.specs.declared.Pod.{Pod}
+use Rattle.rules.specs.State.{Lent, withParams, withWords, withPipe, freshPod}
+use Rattle.rules.specs.Obey.{initialisedPod}
+use Rattle.rules.specs.Refusals.{done}
+use Rattle.rules.specs.Families.{PipeCall, byte, timeout, packetOut, taken, pipe}
+use Rattle.rules.specs.World.{world, power, lone, samples, told, next}
+use Rattle.examples.specs.Shown.{justInitialised}
+use Rattle.examples.specs.Computed.{TalkTurn, asks, dusty}
+use Rattle.port_examples.specs.Packets.{Talks, success, wakes, update, updated, stocked}
+
+-- ---- the turns of a talk
+
+-- a pipe call that gives these bytes; one that is refused
+abbrev pub yields : PipeCall → List ℕ → TalkTurn
+yields c bs = record { call = lone (pipe c); told = told (gave done) bs }
+
+abbrev pub declines : PipeCall → ℕ → TalkTurn
+declines c n = record { call = lone (pipe c); told = told (refused n) [] }
+
+-- the frames of samples all 0, by bytes 0, 3 and 5 of AN03: the timeouts of both halves, 128 where bytes are gathered, 128 for busy and
+-- 4 for awake
+abbrev pub frame03 : ℕ → ℕ → ℕ → TalkTurn
+frame03 a b c = record { call = samples 0 (replicate 128 0); told = told (gave done) (a ∷ 0 ∷ 0 ∷ b ∷ 0 ∷ c ∷ replicate 10 0) }
+
+abbrev pub turnsOn : TalkTurn
+turnsOn = record { call = power; told = told (gave done) [] }
+
+abbrev pub shutsDown : TalkTurn
+shutsDown = asks (0x9F ∷ 0x01 ∷ 0x05 ∷ 0xFB ∷ []) (success 0x9F 0x34 0xFC)
+
+-- two packets
+abbrev pub onePacket : List ℕ
+onePacket = 0xA1 ∷ 0xA2 ∷ 0xA3 ∷ 0xA4 ∷ 0xA5 ∷ 0xA6 ∷ 0xA7 ∷ 0xA8 ∷ []
+
+abbrev pub otherPacket : List ℕ
+otherPacket = 0xB1 ∷ 0xB2 ∷ 0xB3 ∷ 0xB4 ∷ 0xB5 ∷ 0xB6 ∷ 0xB7 ∷ 0xB8 ∷ []
+
+-- ---- asleep, from power on
+
+abbrev pub asleepFirst : List TalkTurn
+asleepFirst =
+    turnsOn
+    -- "one not of 8 bytes (22), and 6 as before; 22 before 6"
+    ∷ declines (packetOut (replicate 7 0xA1)) 22
+    ∷ declines (packetOut onePacket) 6
+    ∷ declines (packetOut (0xA0 ∷ onePacket)) 22
+    ∷ declines (packetOut []) 22
+    ∷ declines taken 6
+    ∷ declines timeout 6
+    ∷ frame03 0x00 0 0
+    -- and nothing came of it
+    ∷ wakes
+    ∷ yields taken []
+    ∷ frame03 0x00 0 4
+    ∷ []
+
+-- ---- awake: one packet whole, and the rest of another dropped
+
+abbrev pub handedOver : List TalkTurn
+handedOver =
+    declines (packetOut (replicate 7 0xA1)) 22
+    ∷ frame03 0x00 0 4
+    -- "handed to the camera one byte at a time": the first at once; "output busy in 5.7"
+    ∷ yields (packetOut onePacket) (0xA1 ∷ [])
+    ∷ frame03 0x00 0 132
+    -- "a packet while one is being handed over (21)", with 8, 4 and 1 in hand; "21 last"
+    ∷ declines (packetOut otherPacket) 21
+    ∷ declines (packetOut (0xB0 ∷ otherPacket)) 22
+    -- "each byte after the last was taken"
+    ∷ yields taken (0xA2 ∷ [])
+    ∷ yields taken (0xA3 ∷ [])
+    ∷ yields taken (0xA4 ∷ [])
+    ∷ yields taken (0xA5 ∷ [])
+    ∷ frame03 0x00 0 132
+    ∷ declines (packetOut otherPacket) 21
+    ∷ yields taken (0xA6 ∷ [])
+    ∷ yields taken (0xA7 ∷ [])
+    ∷ yields taken (0xA8 ∷ [])
+    ∷ frame03 0x00 0 132
+    ∷ declines (packetOut otherPacket) 21
+    ∷ yields taken []
+    ∷ frame03 0x00 0 4
+    -- "A taken or a timeout with nothing in hand does nothing."
+    ∷ yields taken []
+    ∷ yields timeout []
+    ∷ frame03 0x00 0 4
+    -- "If the camera stops taking them, the rest of that packet is dropped and an output timeout is counted": once
+    ∷ yields (packetOut otherPacket) (0xB1 ∷ [])
+    ∷ yields taken (0xB2 ∷ [])
+    ∷ yields taken (0xB3 ∷ [])
+    ∷ yields timeout []
+    ∷ frame03 0x01 0 4
+    ∷ yields taken []
+    ∷ yields timeout []
+    ∷ frame03 0x01 0 4
+    -- and the next packet begins anew
+    ∷ yields (packetOut onePacket) (0xA1 ∷ [])
+    ∷ yields taken (0xA2 ∷ [])
+    ∷ []
+
+-- ---- the count
+
+-- so many packets dropped whole
+abbrev pub dropsEach : ℕ → List TalkTurn
+dropsEach zero = []
+dropsEach (suc n) = yields (packetOut onePacket) (0xA1 ∷ []) ∷ yields timeout [] ∷ dropsEach n
+
+-- "AN03 then carries the count in 0.3-0", "15 meaning 15 or more", beside two input timeouts in 0.7-4
+abbrev pub countedDrops : List TalkTurn
+countedDrops =
+    yields (byte 9) []
+    ∷ yields timeout (9 ∷ [])
+    ∷ yields (byte 9) []
+    ∷ yields timeout (9 ∷ [])
+    ∷ frame03 0x20 0 4
+    ∷ dropsEach 14
+    ++ (frame03 0x2E 0 4
+    ∷ dropsEach 1
+    ++ (frame03 0x2F 0 4
+    ∷ dropsEach 1
+    ++ (frame03 0x2F 0 4
+    ∷ [])))
+
+-- ---- both halves
+
+abbrev pub bothHalves : List TalkTurn
+bothHalves =
+    -- bytes gathered and bytes in hand, at one timeout: only the gathered go to the aircraft, and each half counts its own
+    yields (byte 1) []
+    ∷ yields (byte 2) []
+    ∷ yields (packetOut onePacket) (0xA1 ∷ [])
+    ∷ yields taken (0xA2 ∷ [])
+    ∷ frame03 0x00 128 132
+    ∷ yields timeout (1 ∷ 2 ∷ [])
+    ∷ frame03 0x11 0 4
+    ∷ yields taken []
+    -- one half alone, the other alone
+    ∷ yields (byte 3) []
+    ∷ yields timeout (3 ∷ [])
+    ∷ frame03 0x21 0 4
+    ∷ yields (packetOut otherPacket) (0xB1 ∷ [])
+    ∷ yields timeout []
+    ∷ frame03 0x22 0 4
+    -- "the eighth sends all eight", past a packet in hand
+    ∷ yields (packetOut onePacket) (0xA1 ∷ [])
+    ∷ map (λ (b : ℕ). yields (byte b) []) (1 ∷ 2 ∷ 3 ∷ 4 ∷ 5 ∷ 6 ∷ 7 ∷ [])
+    ++ (yields taken (0xA2 ∷ [])
+    ∷ yields (byte 8) (1 ∷ 2 ∷ 3 ∷ 4 ∷ 5 ∷ 6 ∷ 7 ∷ 8 ∷ [])
+    ∷ yields taken (0xA3 ∷ [])
+    ∷ [])
+
+-- ---- what keeps the bytes in hand and the count, and what empties this half
+
+abbrev pub outlasting : List TalkTurn
+outlasting =
+    dropsEach 1
+    ++ (yields (packetOut otherPacket) (0xB1 ∷ [])
+    ∷ yields taken (0xB2 ∷ [])
+    -- an Update keeps it; so does a Shutdown, and then "6 as before"
+    ∷ update
+    ∷ yields taken (0xB3 ∷ [])
+    ∷ shutsDown
+    ∷ declines taken 6
+    ∷ declines timeout 6
+    ∷ declines (packetOut onePacket) 6
+    ∷ frame03 0x01 0 128
+    -- "Initialise empties this half too and sets its count to 0": asleep, and awake
+    ∷ wakes
+    ∷ frame03 0x00 0 4
+    ∷ yields taken []
+    ∷ dropsEach 1
+    ++ (yields (packetOut onePacket) (0xA1 ∷ [])
+    ∷ wakes
+    ∷ frame03 0x00 0 4
+    ∷ yields taken []
+    ∷ yields timeout []
+    ∷ frame03 0x00 0 4
+    -- and so does power on
+    ∷ dropsEach 1
+    ++ (yields (packetOut onePacket) (0xA1 ∷ [])
+    ∷ frame03 0x01 0 132
+    ∷ turnsOn ∷ frame03 0x00 0 0
+    ∷ wakes
+    ∷ yields taken []
+    ∷ frame03 0x00 0 4
+    ∷ [])))
+
+-- ---- nothing else is touched
+
+-- a pipe call, and the pipe before and after it
+pub record PipeMove : Type 0 where
+  pub call : PipeCall
+  pub before : Pipe
+  pub after : Pipe
+
+abbrev pub pipeMove : PipeCall → Pipe → Pipe → PipeMove
+pipeMove c i j = record { call = c; before = i; after = j }
+
+-- these bytes gathered and zeros behind them, and so many timeouts; of a packet so many bytes in hand, and so many timeouts
+abbrev pub bothSides : List ℕ → ℕ → List ℕ → ℕ → ℕ → Pipe
+bothSides xs n b hand k =
+    record { input = record { bytes = sets (replicate 8 0) 0 xs; gathered = length xs; timeouts = n }; output = record { bytes = b; hand = hand; timeouts = k } }
+
+-- "A taken or a timeout with nothing in hand does nothing": here the output half, by the last two
+abbrev pub pipeMoves : List PipeMove
+pipeMoves =
+    pipeMove (packetOut onePacket) (bothSides (9 ∷ []) 2 otherPacket 0 4) (bothSides (9 ∷ []) 2 onePacket 8 4)
+    ∷ pipeMove taken (bothSides (9 ∷ []) 2 onePacket 8 4) (bothSides (9 ∷ []) 2 onePacket 7 4)
+    ∷ pipeMove (byte 5) (bothSides (9 ∷ []) 2 onePacket 7 4) (bothSides (9 ∷ 5 ∷ []) 2 onePacket 7 4)
+    ∷ pipeMove timeout (bothSides (9 ∷ 5 ∷ []) 2 onePacket 7 4) (bothSides [] 3 onePacket 0 5)
+    ∷ pipeMove timeout (bothSides (9 ∷ []) 3 onePacket 0 5) (bothSides [] 4 onePacket 0 5)
+    ∷ pipeMove taken (bothSides [] 4 onePacket 0 5) (bothSides [] 4 onePacket 0 5)
+    ∷ []
+
+-- a pod with an exchange open, blocks waiting, every field updated, a parameter written, a load open, and this in its pipe
+abbrev pub furnished : Exchange → Pipe → Pod
+furnished x i =
+    withPipe i
+    (withWords (withTransfer (Load (header Five 4) 3) startWords)
+    (withParams (stored startParams 4 (pos 50))
+    (stocked x (record { pod = initialisedPod updated; waiting = 0; remaining = 0 }))))
+
+-- whichever exchange is open and whatever is lent, these calls move the pipe so, and leave all else of the world as it was
+abbrev pub PipeAlone : Type 0
+PipeAlone =
+    (x : Exchange) (l : Lent)
+    → map (λ (m : PipeMove). next (world (furnished x (m .before)) l) (lone (pipe (m .call)))) pipeMoves
+    ≡ map (λ (m : PipeMove). world (furnished x (m .after)) l) pipeMoves
+
+pub record PipeOut : Type 0 where
+  pub asleep : Talks (world freshPod dusty) asleepFirst
+  pub awake : Talks justInitialised handedOver
+  pub counted : Talks justInitialised countedDrops
+  pub both : Talks justInitialised bothHalves
+  pub outlasts : Talks justInitialised outlasting
+  pub alone : PipeAlone
