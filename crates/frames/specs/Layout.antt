@@ -10,7 +10,8 @@ use Rattle.frames.specs.declared.Frames.{Frames}
 use Rattle.frames.specs.Samples.{averagesOf}
 use Rattle.frames.specs.Fields.{Field, fieldBits, fieldBit, bitsOf, frame}
 
--- 0x24MM Module Status AN03 in byte-pipe mode, each line of the guide with what stands there: of the eight averages,
+-- 0x24MM Module Status AN03 in byte-pipe mode, each line of the guide with what stands there (of the output's only the count and busy:
+-- 1.3-0 and 5.6-3 stay 0): of the eight averages,
 -- the pipe, initialised or not, and the self-check number
 unfoldable pub lines03 : List ℕ → Pipe → Bool → ℕ → List Field
 lines03 averages pipe initialised selfcheck =

@@ -30,8 +30,8 @@ fieldMost (Limit s) = storeMost s
 fieldMost (Remaining s) = storeMost s
 fieldMost Poll = most 16
 
--- "`initialised`, `error`, `written` 0 or 1; `mode`, `timeouts`, places, oldest, waiting .. 0 to 255; `gathered` 0 to 8"; request No. 3: `out` 0 to 9,
--- `outtimeouts` 0 to 255
+-- "`initialised`, `error`, `written` 0 or 1; `mode`, `timeouts`, places, oldest, waiting .. 0 to 255; `gathered` 0 to 8"; of request No. 3's half `out`
+-- 0 to 9, `outtimeouts` 0 to 255
 abbrev pub cellMost : Cell → ℕ
 cellMost Initialised = 1
 cellMost (field f) = fieldMost f

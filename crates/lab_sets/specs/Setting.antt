@@ -58,7 +58,7 @@ gathering n i = record { input = record { bytes = replicate 8 0; gathered = n; t
 abbrev pub counting : ℕ → Pipe → Pipe
 counting n i = record { input = record { bytes = i .input .bytes; gathered = i .input .gathered; timeouts = n }; output = i .output }
 
--- request No. 3: `out` n, n bytes of 0 in hand
+-- of request No. 3's half: `out` n, n bytes of 0 in hand
 abbrev pub handing : ℕ → Pipe → Pipe
 handing n i = record { input = i .input; output = record { bytes = replicate 8 0; hand = n; timeouts = i .output .timeouts } }
 

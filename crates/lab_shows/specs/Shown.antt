@@ -103,7 +103,7 @@ unfoldable pub spelledWords : List ℕ → List ℕ
 spelledWords [] = []
 spelledWords (w ∷ ws) = space ∷ (wordDigits w ++ spelledWords ws)
 
--- request No. 3, behind the rest: how many bytes are in hand, output timeouts, and the CRC of the bytes in hand, of 8 at most; and the
+-- behind the rest, of request No. 3's half: how many bytes are in hand, output timeouts, and the CRC of the bytes in hand, of 8 at most; and the
 -- line's end
 abbrev pub outNumbers : Pod → List ℕ
 outNumbers p = p .pipe .output .hand ∷ p .pipe .output .timeouts ∷ []

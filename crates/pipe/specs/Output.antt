@@ -8,7 +8,7 @@ use Rattle.pipe.specs.declared.Output.{Output}
 use Rattle.pipe.specs.declared.Handed.{Handed}
 use Rattle.pipe.specs.Input.{sentPacket, countUp}
 
--- the bytes in hand, the one being shown first: the last of the packet's eight
+-- the bytes in hand, the one being shown first: the last `hand` of the packet's eight
 unfoldable pub heldOut : Output → List ℕ
 heldOut o = drop (8 - o .hand) (o .bytes)
 
@@ -28,7 +28,7 @@ handed o = record { sent = sentPacket (shownOut o); output = o }
 unfoldable pub outputPacket : Output → List ℕ → Handed
 outputPacket o b = handed (record { bytes = b; hand = 8; timeouts = o .timeouts })
 
--- "one byte at a time, each byte after the last was taken"; "A taken .. with nothing in hand does nothing."
+-- "one byte at a time, each byte after the last was taken"; "A taken .. with nothing in hand does nothing.": 0 less 1 is 0
 unfoldable pub outputTaken : Output → Handed
 outputTaken o = handed (record { bytes = o .bytes; hand = o .hand - 1; timeouts = o .timeouts })
 

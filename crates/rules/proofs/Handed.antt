@@ -34,9 +34,13 @@ pub record Handled (o : Output) (s : List ℕ) (h : Handing) : Type 0 where
   pub hands : Hands o s h
   pub whole : WholeOut o
 
+-- as many are in hand as the output says
+counts : {o : Output} → WholeOut o → (l : List ℕ) → heldOut o ≡ l → o .hand ≡ length l
+counts {o} w l e = sym (length-out w) ∙ ap (λ (k : List ℕ). length k) e
+
 -- as many are in hand by the history as the output says
 pub many-held : (o : Output) (s : List ℕ) (h : Handing) → Handled o s h → length (inHand (h .packets)) ≡ o .hand
-many-held o s h x = ap (λ (l : List ℕ). length l) (sym (x .hands .hand)) ∙ length-out (x .whole)
+many-held o s h x = sym (x .hands .count)
 
 -- ---- packets
 
@@ -89,7 +93,7 @@ emptied : (s : List ℕ) (h : Handing) → s ≡ shownIn (h .packets) → allOve
 unfolding freshPipe freshOutput heldOut
 emptied s h e o =
     record {
-      hands = record { answered = e ∙ sym (shown-cut (h .packets)); hand = sym (hand-cut (h .packets)); counted = refl; over = rw (over-cut (h .packets)) o };
+      hands = record { answered = e ∙ sym (shown-cut (h .packets)); hand = sym (hand-cut (h .packets)); count = ap (λ (l : List ℕ). length l) (sym (hand-cut (h .packets))); counted = refl; over = rw (over-cut (h .packets)) o };
       whole = whole-fresh;
     }
 
@@ -120,10 +124,12 @@ module _ (o : Output) (s : List ℕ) (h : Handing) (x : Handled o s h) where
   unfolding handingAfter countUp
   timeout-hands =
       let many = many-held o s h x in
+      let held = out-timeout-cases (λ p. heldOut p ≡ []) o (none-out o (x .whole .long)) (λ e. none-out _ (x .whole .long) refl) ∙ sym (hand-cut (h .packets)) in
       record {
         hands = record {
           answered = x .hands .answered ∙ sym (shown-cut (h .packets));
-          hand = out-timeout-cases (λ p. heldOut p ≡ []) o (none-out o (x .whole .long)) (λ e. none-out _ (x .whole .long) refl) ∙ sym (hand-cut (h .packets));
+          hand = held;
+          count = counts (whole-timeout (x .whole)) _ held;
           counted =
               out-timeout-cases (λ p. p .timeouts ≡ min (cond (eqb (length (inHand (h .packets))) 0) (h .timeouts) (h .timeouts + 1)) 15) o
               (λ e. rw (many, eq-eqb (o .hand) 0 e) (x .hands .counted))
@@ -142,6 +148,7 @@ module _ (o : Output) (s : List ℕ) (h : Handing) (x : Handled o s h) where
         hands = record {
           answered = rw (next, x .hands .answered) (sym (shown-taken (h .packets)));
           hand = held ∙ sym (hand-taken (h .packets));
+          count = counts (whole-taken (x .whole)) _ (held ∙ sym (hand-taken (h .packets)));
           counted = taken-counts o ∙ x .hands .counted;
           over = rw (over-taken (h .packets)) (x .hands .over);
         };
@@ -156,6 +163,7 @@ module _ (o : Output) (s : List ℕ) (h : Handing) (x : Handled o s h) where
         hands = record {
           answered = rw (packet-shows o b, x .hands .answered);
           hand = held-packet o b;
+          count = counts (whole-packet o b eight) _ (held-packet o b);
           counted = packet-counts o b ∙ x .hands .counted;
           over = all-over (h .packets) (many-held o s h x ∙ none-busy o idle) (x .hands .over);
         };

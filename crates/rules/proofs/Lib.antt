@@ -7,6 +7,7 @@ pub mod Histories
 pub mod Untouched
 pub mod Flow
 pub mod Handed
+pub mod PipeOnly
 pub mod Frames
 pub mod Heard
 pub mod NoOther

@@ -18,6 +18,7 @@ use Rattle.rules.proofs.Blocks.{blocks-are-history}
 use Rattle.rules.proofs.Asked.{receive-is-history, status-is-history, read-is-written}
 use Rattle.rules.proofs.Flow.{pipe-is-history}
 use Rattle.rules.proofs.Handed.{handed-is-history}
+use Rattle.rules.proofs.PipeOnly.{pipe-only}
 use Rattle.rules.proofs.Frames.{frames-are-history}
 use Rattle.rules.proofs.Kept.{awake-is-history, fields-are-history, exchange-is-history, params-are-history, marks-are-history, drop-guarded, fresh-is}
 use Rattle.rules.proofs.NoTrace.{no-trace, as-from-power, no-trace-past}
@@ -57,6 +58,7 @@ whole =
       read-is-written = read-is-written;
       pipe-is-history = pipe-is-history;
       handed-is-history = handed-is-history;
+      pipe-only = pipe-only;
       frames-are-history = frames-are-history;
       awake-is-history = awake-is-history;
       fields-are-history = fields-are-history;

@@ -111,7 +111,7 @@ worded o p = out (o .said) (withWords (o .pod) p) (o .lent)
 unfoldable pub wordCall : WordCall → Desk → Pod → Out Desk
 wordCall c d p = ran (wordRows c (d .tables) p) p d (worded (wordOf c (p .initialised) (p .words) d) p)
 
--- ---- the deadline and the byte pipe, lent nothing: what is given comes as nothing
+-- ---- the deadline and the byte pipe, lent nothing that they may change: what is given comes as nothing
 
 -- "22 before 6, 21 last": the order is request No. 3's own, and does not rise
 abbrev pub pipeRows : PipeCall → Pod → List Row

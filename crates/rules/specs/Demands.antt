@@ -44,7 +44,7 @@ use Rattle.rules.specs.Pairs.{Accepts, ShutsDown, keptIn, seenIn, sizesI
 abbrev pub AlwaysAnswered : Type 0
 AlwaysAnswered = (w : World) (c : Call) (n : ℕ) → (step w c .told .said ≡ refused n) ↔ First n (rowsOf w c)
 
--- "Lowest number first": the rows of every call of document 01 rise, so that the first is the lowest
+-- "Lowest number first": the rows of every call but the packet out, which request No. 3 orders, rise, so that the first is the lowest
 abbrev pub LowestFirst : Type 0
 LowestFirst =
     (w : World) (c : Call) (n : ℕ) → rowsRise c ≡ true

@@ -1,4 +1,5 @@
--- Families of calls, each over the parts of the pod that it touches and what it is lent alone: table words, and calls lent nothing.
+-- Families of calls, each over the parts of the pod that it touches and what it is lent alone: table words, and calls lent nothing
+-- that they may change.
 -- Assumes nothing.
 use Prim.Native.Nat.{ℕ}
 use mathlib.Core.Bool.{Bool}
@@ -60,7 +61,7 @@ pub data PipeCall : Type 0 where
 abbrev pub Sends : Type 0 → Type 0
 Sends P = Out (Unit {0}) P Sent
 
--- what the input half makes of a call, and what the output half does
+-- the pipe with one half moved and the other as it was, and what is given: of the input half, and of the output half
 abbrev pub inputMoved : Piped → Pipe → Sends Pipe
 inputMoved q p = out tt (record { input = q .input; output = p .output }) (q .sent)
 
@@ -74,7 +75,7 @@ pipeOf timeout p = inputMoved (pipeTimeout (p .input)) (record { input = p .inpu
 pipeOf (packetOut b) p = outputMoved (outputPacket (p .output) b) p
 pipeOf taken p = outputMoved (outputTaken (p .output)) p
 
--- ---- the calls that are lent nothing, and give back no more than what the pipe gives
+-- ---- the calls that are lent nothing that they may change, and give back no more than what the pipe gives
 
 pub data LoneCall : Type 0 where
   deadline : LoneCall

@@ -11,9 +11,9 @@ use Rattle.pipe.specs.declared.Input.{Input}
 use Rattle.pipe.specs.declared.Output.{Output}
 use Rattle.pipe.specs.Input.{heldIn}
 use Rattle.pipe.specs.Output.{heldOut}
-use Rattle.rules.specs.State.{Lent}
-use Rattle.rules.specs.Families.{PipeCall, byte, timeout, packetOut, taken}
-use Rattle.rules.specs.World.{Call, final, powered}
+use Rattle.rules.specs.State.{Lent, withPipe}
+use Rattle.rules.specs.Families.{PipeCall, byte, timeout, packetOut, taken, pipe}
+use Rattle.rules.specs.World.{World, withPod, Call, lone, next, final, powered}
 use Rattle.rules.specs.History.{Event, nothing, begins, sleeps, updates, writesParameter, opensExchange, closesExchange, hearsAcknowledgement, puts, words, touches, events, fold}
 
 -- whose bytes go to the aircraft; all others' go to the camera
@@ -101,7 +101,8 @@ PipeIsHistory =
 
 -- ---- the output half, of request No. 3
 
--- a packet that was accepted: its bytes, how often a byte was taken since, and whether a timeout, Initialise or power on came
+-- a packet that was accepted: its bytes; how many takens came since, before it was cut (past the eighth they show nothing); and whether
+-- it was cut, by a timeout, an accepted Initialise or power on
 pub record Packet : Type 0 where
   pub bytes : List ℕ
   pub takens : ℕ
@@ -122,7 +123,8 @@ handOf q = cond (q .cut) [] (drop (q .takens) (q .bytes))
 abbrev pub isOver : Packet → Bool
 isOver q = q .cut || leb (length (q .bytes)) (q .takens)
 
--- all packets that were accepted, the last one first, and the timeouts since the beginning that dropped something
+-- all packets that were accepted, the last one first, and the timeouts since the last power on or accepted Initialise that dropped
+-- something
 pub record Handing : Type 0 where
   pub packets : List Packet
   pub timeouts : ℕ
@@ -147,11 +149,12 @@ unfoldable pub allOver : List Packet → Bool
 allOver [] = true
 allOver (q ∷ qs) = isOver q && allOver qs
 
--- the last packet cut, and one more byte of it taken unless it was cut
+-- the last packet is cut
 abbrev pub cutLast : List Packet → List Packet
 cutLast [] = []
 cutLast (q ∷ qs) = packetOf (q .bytes) (q .takens) true ∷ qs
 
+-- one more byte of it is taken, unless it was cut
 abbrev pub takenLast : List Packet → List Packet
 takenLast [] = []
 takenLast (q ∷ qs) = packetOf (q .bytes) (cond (q .cut) (q .takens) (q .takens + 1)) (q .cut) ∷ qs
@@ -170,7 +173,7 @@ handingMoved (some c) h = handingAfter c h
 
 unfoldable pub handingBy : Event → Handing → Handing
 handingBy nothing h = h
--- "Initialise empties this half too and sets its count to 0"
+-- power on, and "Initialise empties this half too and sets its count to 0"
 handingBy (begins a f) h = handing (cutLast (h .packets)) 0
 handingBy sleeps h = h
 handingBy (updates f) h = h
@@ -201,13 +204,27 @@ pub record Hands (o : Output) (shown : List ℕ) (h : Handing) : Type 0 where
   -- they are, in order, the first bytes of each accepted packet
   pub answered : shown ≡ shownIn (h .packets)
   pub hand : heldOut o ≡ inHand (h .packets)
+  -- and so 21 is by the history: "a packet while one is being handed over"
+  pub count : o .hand ≡ length (inHand (h .packets))
   -- "an output timeout is counted, 15 meaning 15 or more"
   pub counted : o .timeouts ≡ min (h .timeouts) 15
   -- every packet but the last was handed over whole, or cut
   pub over : allOver (drop 1 (h .packets)) ≡ true
 
--- the output half is history
+-- the bytes that packet out and taken answer are, in order, the first bytes of each accepted packet: all eight, or those up to the
+-- timeout, accepted Initialise or power on that cut it; of the last packet, those answered so far
 abbrev pub HandedIsHistory : Type 0
 HandedIsHistory =
     (l : Lent) (cs : List Call)
     → Hands (final (powered l) cs .pod .pipe .output) (fold shownBy [] (events (powered l) cs)) (fold handingBy noHanding (events (powered l) cs))
+
+-- ---- neither half sees the other
+
+-- in any world a pipe call touches nothing but the pipe; one whose bytes go to the camera leaves the input half as it was, and a byte
+-- from the camera the output half
+abbrev pub PipeOnly : Type 0
+PipeOnly =
+    (w : World) (c : PipeCall)
+    → (next w (lone (pipe c)) ≡ withPod (withPipe (next w (lone (pipe c)) .pod .pipe) (w .pod)) w)
+    × (toCamera c ≡ true → next w (lone (pipe c)) .pod .pipe .input ≡ w .pod .pipe .input)
+    × ((b : ℕ) → next w (lone (pipe (byte b))) .pod .pipe .output ≡ w .pod .pipe .output)

@@ -26,7 +26,7 @@ use Rattle.rules.specs.World.{World, Call, power, packet, put, word, lon
 
 -- ---- a call with what it told, read as what happened
 
--- of a call that is lent nothing: whether it closes an open exchange, and which pipe call it is, if any
+-- of a call that is lent nothing to change: whether it closes an open exchange, and which pipe call it is, if any
 pub record Touch : Type 0 where
   pub closes : Bool
   pub moves : Option PipeCall
@@ -51,7 +51,7 @@ pub data Event : Type 0 where
   hearsAcknowledgement : ℕ → Bool → Event
   puts : Store → List ℕ → Event
   words : WordCall → Event
-  -- a call that is lent nothing, and the bytes that it gave
+  -- a call that is lent nothing to change, and the bytes that it gave
   touches : Touch → List ℕ → Event
 
 -- a command answered without error

@@ -110,13 +110,13 @@ notEight (pipe timeout) = false
 notEight (pipe (packetOut b)) = not (eqb (length b) 8)
 notEight (pipe taken) = false
 
-abbrev pub packetWrong : Call → Bool
-packetWrong power = false
-packetWrong (packet b room) = false
-packetWrong (put s b) = false
-packetWrong (word c) = false
-packetWrong (lone c) = notEight c
-packetWrong (samples k xs) = false
+abbrev pub outWrong : Call → Bool
+outWrong power = false
+outWrong (packet b room) = false
+outWrong (put s b) = false
+outWrong (word c) = false
+outWrong (lone c) = notEight c
+outWrong (samples k xs) = false
 
 -- the rows in the order in which they are judged: document 01's rise, and of request No. 3's "22 before 6, 21 last"; no other number
 -- has a row
@@ -127,7 +127,7 @@ rowsInOrder w c =
     ∷ row 3 (stateBroken c (w .pod))
     ∷ row 4 (countWrong c)
     ∷ row 5 (numberOver c)
-    ∷ row 22 (packetWrong c)
+    ∷ row 22 (outWrong c)
     ∷ row 6 (podAsleep c (w .pod))
     ∷ row 7 (storeFull c (w .pod))
     ∷ row 21 (handBusy c (w .pod))

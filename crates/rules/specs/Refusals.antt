@@ -43,7 +43,7 @@ refusalNumber Full = 7
 refusalNumber Busy = 21
 refusalNumber Eight = 22
 
--- an answer in document 01's numbers
+-- an answer in these numbers
 unfoldable pub answerSaid : Answer → Said Giving
 answerSaid (Refused r) = refused (refusalNumber r)
 answerSaid Done = gave done

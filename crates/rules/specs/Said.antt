@@ -25,7 +25,7 @@ abbrev pub isMove : Option PipeCall → Bool
 isMove none = false
 isMove (some c) = true
 
--- the answer room, what the pipe sent, two frames
+-- the answer room, what the pipe gave, two frames
 abbrev pub givesBytes : Call → Bool
 givesBytes power = false
 givesBytes (packet b room) = true

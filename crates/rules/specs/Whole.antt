@@ -1,7 +1,7 @@
 -- All that the owner asked for, in one record: proofs/Whole.antt has its one value.
 -- Assumes nothing.
 use Rattle.rules.specs.Demands.{AlwaysAnswered, LowestFirst, RowsExactly, RefusedUnchanged, KeptSound, LoadWhole, LoadCut, ReadWhole, ReadEnds, ReadMoves, TablesOnly, MessageError, StatusWordShows, PortOnly, PlacesOnly, PacketAnswered, ChecksExactly, OpensExactly, Damage, DamageAnswered, ErrorUnchanged, BlocksAreHistory, ReceiveIsHistory, StatusIsHistory, ReadIsWritten, FramesAreHistory, NoTrace, AsFromPower, NoTracePast, AnswerAlike, AsleepFromPower, AsleepFromShutdown, TransferOnly, PortIsHistory, ReadsShown}
-use Rattle.rules.specs.Halves.{PipeIsHistory, HandedIsHistory}
+use Rattle.rules.specs.Halves.{PipeIsHistory, HandedIsHistory, PipeOnly}
 use Rattle.rules.specs.Kept.{AwakeIsHistory, FieldsAreHistory, ExchangeIsHistory, ParamsAreHistory, MarksAreHistory, DropGuarded, FreshIs}
 use Rattle.rules.specs.Said.{SaysDone}
 
@@ -39,6 +39,7 @@ pub record Whole : Type 0 where
   pub read-is-written : ReadIsWritten
   pub pipe-is-history : PipeIsHistory
   pub handed-is-history : HandedIsHistory
+  pub pipe-only : PipeOnly
   pub frames-are-history : FramesAreHistory
   -- and the state between them is the history's, where no answer shows it too
   pub awake-is-history : AwakeIsHistory

@@ -28,7 +28,7 @@ world p l = record { pod = p; lent = l }
 abbrev pub withPod : Pod → World → World
 withPod p w = world p (w .lent)
 
--- a call, with what it brings; the table words, and the calls that are lent nothing, are a family each
+-- a call, with what it brings; the table words, and the calls that are lent nothing to change, are a family each
 pub data Call : Type 0 where
   power : Call
   -- a packet, and the answer room
@@ -48,7 +48,7 @@ roomOf (word c) = []
 roomOf (lone c) = []
 roomOf (samples k xs) = []
 
--- what a call tells: what it says, and the bytes that it gives: the room after a packet, what the pipe sent, two frames
+-- what a call tells: what it says, and the bytes that it gives: the room after a packet, what the pipe gave, two frames
 pub record Told : Type 0 where
   pub said : Said Giving
   pub bytes : List ℕ
