@@ -87,13 +87,13 @@ def message_error(yes, why):
     say('S', 'S %04X' % (2 if yes else 0), why)
 
 
-def frame_bytes(means, check, timeouts=0, gathered=False, initialised=True):
+def frame_bytes(means, check, timeouts=0, gathered=False, initialised=True, dropped=0, hand=False):
     """AN03 and AN47: channels 1 to 3 and 5 to 7, low byte, then bits 9 and 8."""
-    three = [timeouts << 4, 0]
+    three = [timeouts << 4 | dropped, 0]
     for channel in (1, 2, 3):
         three += [means[channel] & 255, means[channel] >> 8]
     three[3] |= 0x80 if gathered else 0
-    three[5] |= 0x04 if initialised else 0
+    three[5] |= (0x80 if hand else 0) | (0x04 if initialised else 0)
     three[7] |= check << 2
     seven = [0, 0]
     for channel in (5, 6, 7):
@@ -198,18 +198,39 @@ survey(0x1F, 'one timeout in 0.7-4; self-check number 31', timeouts=1)
 for k, b in enumerate(b'EIGHTY C'):
     say('I %02X' % b, 'I' + spelled(b'EIGHTY C') if k == 7 else 'I -', 'the eighth byte sends all eight' if k == 7 else '')
 
+# packets for the camera
+say('O' + spelled(b'SHUTTER'), 'O !22', 'a packet for the camera has eight bytes')
+say('O' + spelled(b'SHUTTER1'), 'O 53', 'its first byte is in hand')
+say('O' + spelled(b'SHUTTER2'), 'O !21', 'a second one while it is handed over')
+survey(0x00, 'output busy: 5.7 is 1; the timeout before it is still in 0.7-4', timeouts=1, hand=True)
+for k, b in enumerate(b'HUTTER1'):
+    say('K', 'K %02X' % b, 'the camera takes it, and the next is in hand' if k == 0 else '')
+say('K', 'K -', 'the last one taken')
+say('K', 'K -', 'with nothing in hand nothing happens')
+say('O' + spelled(b'SHUTTER2'), 'O 53', 'now the second one')
+say('K', 'K 48', 'one byte of it is taken')
+say('T', 'T -', 'the camera stops: the rest is dropped; of the input nothing is gathered, so nothing is sent')
+say('K', 'K -', 'nothing is in hand')
+say('T', 'T -', 'and nothing more is counted')
+survey(0x00, 'one output timeout in 0.3-0, beside the one in 0.7-4', timeouts=1, dropped=1)
+
 # a damaged packet, other lines
 say('P 93 01 04 00 00 03 E8 00 00', 'P' + spelled(checked([0x93, 0x09, 0x01])), 'a parameter write damaged on the way')
 say('P 93 01 04 00 00 03 e8 00 00', '?', 'small letters are no digits')
 say('', '?', 'an empty line')
 
 # shutdown
+say('O' + spelled(b'STANDBY1'), 'O 53', 'a packet for the camera')
 words('C', [LOAD5], 'a load is open')
 words('W', [5], '')
 done(0x9F, [], 'Shutdown: not initialised, and the load is closed')
 message_error(True, 'which sets message error')
 failed(0x91, [], 0x38, 'Status is refused')
 say('I 00', 'I !6', 'and so is a pipe byte')
+say('K', 'K !6', 'a byte taken')
+say('O' + spelled(b'STANDBY'), 'O !22', 'a packet for the camera of seven bytes, by its length first')
+say('O' + spelled(b'STANDBY2'), 'O !6', 'and one of eight')
+survey(0x00, 'the frames show what Shutdown kept: both counts, and a packet in hand; 5.2 is 0', timeouts=1, dropped=1, hand=True, initialised=False)
 
 # the next client
 done(0x90, fields(2, 0, 25200, 0, 8, 8, 50, 50, 2000), 'the next client: mode 2, flags 0, 07:00:00.000')
@@ -221,6 +242,7 @@ words('C', [ADDRESS], 'the next read address')
 words('W', [16], '16')
 words('C', [READ5], 'read table 5, N 8')
 reads([5, 16, 5] + [0] * 5, 'the table at its start')
+say('K', 'K -', 'nothing of the last hire is in hand')
 survey(0x00, 'no timeout of the last hire')
 
 # power
