@@ -20,7 +20,7 @@ use Rattle.pipe.proofs.Laws.{sound-in, sound-out}
 use Rattle.frames.specs.Samples.{boundedOf}
 use Rattle.rules.specs.declared.Pod.{Pod}
 use Rattle.rules.specs.State.{ringOf}
-use Rattle.rules.specs.Refusals.{tablesRow, stateRow, asleepRow}
+use Rattle.rules.specs.Refusals.{tablesRow, stateRow}
 use Rattle.rules.specs.Families.{packetOut, pipe}
 use Rattle.rules.specs.Calls.{putRows, loneRows, samplesRows}
 use Rattle.rules.proofs.Inside.{pod-in, ring-in}

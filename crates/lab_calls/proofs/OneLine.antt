@@ -21,7 +21,7 @@ use Rattle.lab_lines.specs.Asked.{changeIn}
 use Rattle.decimals.specs.Printing.{spelled, naturals}
 use Rattle.decimals.proofs.Spell.{spelled-inked}
 use Rattle.lab_shows.specs.Shown.{frontNumbers, backNumbers, spelledWords, shownChecks, outNumbers, shownOutput, shownText}
-use Rattle.lab_calls.specs.Own.{isShow, letterOf, Leaves, asks, shows, ownOf}
+use Rattle.lab_calls.specs.Own.{isShow, letterOf, Leaves, ownOf}
 
 words-inked : (ws : List ℕ) → Inked (spelledWords ws)
 unfolding spelledWords

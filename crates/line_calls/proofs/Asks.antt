@@ -7,7 +7,7 @@ use lib.ListN.{take}
 use Rattle.blocks.specs.declared.Store.{Store}
 use Rattle.lines.specs.declared.Line.{Line}
 use Rattle.lines.specs.declared.Line.the-variants as line
-use Rattle.lines.specs.Asked.{Asked, packet, put, samples, askOut}
+use Rattle.lines.specs.Asked.{packet, put, samples, askOut}
 use Rattle.line_calls.specs.Calls.{heardLine}
 
 pub heard-as : (bs ws : List ℕ) {l k : Line} → l ≡ k → heardLine l bs ws ≡ heardLine k bs ws

@@ -5,24 +5,22 @@ use mathlib.Core.Path.{_≡_, refl, sym, ap, subst, _∙_}
 use mathlib.Core.List.{List, []}
 use mathlib.Core.Option.{some}
 use lib.ListN.{take}
-use Rattle.rows.specs.Rows.{Said, gave, Out, out}
+use Rattle.rows.specs.Rows.{Said, gave, out}
 use Rattle.blocks.specs.declared.Store.{Store}
 use Rattle.blocks.specs.declared.Store.the-variants.{Priority, Ordinary}
-use Rattle.tables.specs.Tables.{Three, three}
-use Rattle.tables.specs.Port.{Desk, desk}
-use Rattle.pipe.specs.declared.Sent.{Sent}
+use Rattle.tables.specs.Tables.{three}
+use Rattle.tables.specs.Port.{desk}
 use Rattle.pipe.specs.Input.{sentPacket, sentBytes}
-use Rattle.frames.specs.declared.Frames.{Frames}
 use Rattle.rules.specs.declared.Pod.{Pod}
 use Rattle.rules.specs.declared.Called.{Called}
 use Rattle.rules.specs.declared.Worded.{Worded}
 use Rattle.rules.specs.declared.Passed.{Passed}
 use Rattle.rules.specs.declared.Framed.{Framed}
-use Rattle.rules.specs.State.{withWords, withStores, withTables, storeIn}
+use Rattle.rules.specs.State.{withWords, storeIn}
 use Rattle.rules.specs.Refusals.{Giving, done, answerSaid}
 use Rattle.rules.specs.Families.{WordCall, PipeCall}
 use Rattle.rules.specs.Families as family
-use Rattle.rules.specs.Calls.{Roomed, roomed, powerCall, packetCall, putCall, wordCall, loneCall, samplesCall}
+use Rattle.rules.specs.Calls.{roomed, powerCall, packetCall, putCall, wordCall, loneCall, samplesCall}
 use Rattle.rules.specs.World.{World, world, lone, Told, told, Stepped, stepped, overTables, overRoom, overStore, overDesk, overSent, overFrames, framesIn, step}
 use Rattle.lines.specs.Letters.{letterP, letterD, letterB, letterC, letterW, letterR, letterS, letterA, letterI, letterT, letterO, letterK, letterZ}
 use Rattle.lines.specs.Asked.{Asked, packet, deadline, put, command, dataIn, dataOut, status, samples, askByte, askTimeout, askOut, askTaken, power, other}

@@ -9,7 +9,7 @@ use lib.ListN.{length, take}
 use borrow.Author.Tests.{lt-ltb, le-ltb, eq-eqb, ne-eqb}
 use Rattle.pipe.specs.declared.Input.{Input}
 use Rattle.pipe.specs.declared.Pipe.{Pipe}
-use Rattle.pipe.specs.Input.{heldIn, sentBytes, emptyInput, freshInput, sentPacket, gathers, pipeByte, countUp, pipeTimeout}
+use Rattle.pipe.specs.Input.{heldIn, sentBytes, emptyInput, freshInput, gathers, pipeByte, countUp, pipeTimeout}
 use Rattle.pipe.specs.Pipe.{freshPipe}
 use Rattle.pipe.proofs.Cases.{byte-cases, timeout-cases}
 use Rattle.pipe.proofs.Held.{Whole, length-held, held-gathers, held-empty, listed, whole-empty, whole-gathers}

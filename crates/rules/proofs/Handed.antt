@@ -3,17 +3,17 @@
 use Prim.Native.Nat.{ℕ, _+_, min}
 use native.Mathlib.Omega.{arith}
 use mathlib.Core.Path.{_≡_, refl, sym, ap, _∙_}
-use mathlib.Core.Bool.{true, false, _||_, cond}
+use mathlib.Core.Bool.{true, false, cond}
 use mathlib.Core.List.{List, [], _∷_, _++_, append-nil, append-assoc}
 use mathlib.Core.Option.{Option, none, some}
 use lib.Dec.{leb, eqb}
 use lib.ListN.{length, take, drop, length-drop}
 use lib.Seq.{drop-drop, take-add}
 use borrow.Author.Tests.{leb-false, le-leb, eq-eqb, ne-eqb}
-use Rattle.rows.proofs.Bool.{split, and-both, or-true}
+use Rattle.rows.proofs.Bool.{split, and-both}
 use Rattle.pipe.specs.declared.Output.{Output}
 use Rattle.pipe.specs.declared.Pipe.{Pipe}
-use Rattle.pipe.specs.Input.{sentBytes, sentPacket, countUp}
+use Rattle.pipe.specs.Input.{sentBytes, countUp}
 use Rattle.pipe.specs.Output.{heldOut, shownOut, freshOutput, outputPacket, outputTaken, outputTimeout, busyOf}
 use Rattle.pipe.specs.Pipe.{freshPipe}
 use Rattle.pipe.proofs.Held.{listed}
@@ -23,7 +23,7 @@ use Rattle.rules.specs.Obey.{initialisedPod, doneBy}
 use Rattle.rules.specs.Families.{PipeCall, byte, timeout, packetOut, taken, pipeOf}
 use Rattle.rules.specs.World.{Call, rowsOf, final, powered}
 use Rattle.rules.specs.History.{loneAs, events, fold}
-use Rattle.rules.specs.Halves.{toCamera, gaveIf, Packet, packetOf, shownOf, handOf, isOver, Handing, handing, noHanding, inHand, shownIn, allOver, cutLast, takenLast, handingAfter, handingMoved, handingBy, shownBy, Hands, HandedIsHistory}
+use Rattle.rules.specs.Halves.{toCamera, gaveIf, Packet, isOver, Handing, handing, noHanding, inHand, shownIn, allOver, cutLast, takenLast, handingAfter, handingMoved, handingBy, shownBy, Hands, HandedIsHistory}
 use Rattle.rules.proofs.Lone.{Fits, lone-fits, movedBy}
 use Rattle.rules.proofs.Eventful.{quiet, anew, initialised, slept, updated, wrote, began, closed, acknowledged, shelved, spoken, touched}
 use Rattle.rules.proofs.Histories.{Keeps, history, both, fold-both, powered-fresh}

@@ -22,7 +22,7 @@ use Rattle.tables.specs.Bounds.{soundWords}
 use Rattle.tables.specs.Port.{isOpen, withGiven, startWords}
 use Rattle.tables.proofs.Kept.{start-sound as words-start}
 use Rattle.pipe.specs.declared.Pipe.{Pipe}
-use Rattle.pipe.specs.Pipe.{freshPipe, soundPipe}
+use Rattle.pipe.specs.Pipe.{soundPipe}
 use Rattle.pipe.proofs.Laws.{fresh-sound}
 use Rattle.rules.specs.declared.Exchange.{Exchange}
 use Rattle.rules.specs.declared.Exchange.the-variants.{Closed, Status, Read, Receive}

@@ -1,6 +1,6 @@
 -- What the owner asked for, said of the rules. Each name is a statement; Whole.antt joins them, and proofs/ has a proof of each.
 -- Assumes nothing.
-use Prim.Native.Nat.{ℕ, _+_, _<_, min}
+use Prim.Native.Nat.{ℕ, _+_, _<_}
 use mathlib.Core.Path.{_≡_}
 use mathlib.Core.Logic.{_↔_}
 use mathlib.Core.Bool.{true, false, _&&_, cond}

@@ -1,7 +1,6 @@
 -- "Refused calls": document 01's table and request No. 3's two rows, each over every call, apart from the calls' own lists. "Each row
 -- applies only to calls that are lent the thing."
 -- Assumes nothing.
-use Prim.Native.Nat.{ℕ}
 use mathlib.Core.Bool.{Bool, true, false, not, _&&_, _||_}
 use mathlib.Core.List.{List, [], _∷_}
 use lib.Dec.{ltb, leb, eqb}

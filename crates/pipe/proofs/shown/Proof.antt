@@ -1,9 +1,9 @@
 -- `pipe::shown` meets its contract: none in hand, or the first of those that are.
 use mathlib.Core.Path.{_≡_}
-use mathlib.Core.List.{[], _∷_}
+use mathlib.Core.List.{[]}
 use native.Mathlib.Omega.{arith}
 use Rattle.pipe.specs.Input.{sentPacket}
-use Rattle.pipe.specs.Output.{heldOut, shownOut}
+use Rattle.pipe.specs.Output.{heldOut}
 use Rattle.pipe.proofs.Hand.{none-out, shown-out}
 use borrow.Author.Needs.{needs}
 use Rattle.pipe.proofs.shown.Statement.{statement}

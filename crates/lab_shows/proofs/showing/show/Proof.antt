@@ -1,12 +1,11 @@
 -- `lab_shows::showing::show` meets its contract: the letter, the numbers, the checks, and the output half with the line's end. Assumes nothing.
 use native.Mathlib.Omega.{arith}
 use borrow.Author.Needs.{needs}
-use mathlib.Core.Path.{_≡_, refl, sym, ap, _∙_}
+use mathlib.Core.Path.{_≡_, ap}
 use mathlib.Core.List.{List, [], _∷_, _++_}
 use Prim.Native.Nat.{ℕ}
 use lib.ListN.{length}
 use denote.Ref.{now}
-use Rattle.decimals.specs.Printing.{spelled}
 use Rattle.lab_shows.specs.Shown.{spelledWords, frontNumbers, backNumbers, shownChecks, shownOutput, shownText, lentOf}
 use Rattle.decimals.proofs.Behind.{appended, both, renamed}
 use Rattle.lab_shows.proofs.Spell.{in-front}
