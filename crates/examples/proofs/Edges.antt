@@ -1,7 +1,6 @@
 -- Which refusals come where, by computation.
 -- Assumes nothing.
 use mathlib.Core.Path.{refl, sym, subst}
-use mathlib.Core.List.{flatten}
 use Rattle.rows.specs.Rows.{ran}
 use Rattle.packets.specs.Commands.{fieldsBounded}
 use Rattle.packets.specs.Reading.{packetRead}
@@ -28,7 +27,7 @@ unfolding ran inRows soundParams startParams storeSized soundRing soundPlaces so
 told-edges = refl
 
 outward-edges : AsExpected (outwardEdges awakened)
-unfolding flatten ran inRows soundParams startParams storeSized soundRing soundPlaces soundTransfer soundWords startWords listed startTable tablesSized emptyInput freshInput soundInput freshOutput soundOutput busyOf freshPipe soundPipe boundedOf packetRead packetHeard spokenBytes answered powerCall packetCall putCall wordCall loneCall samplesCall wordLent initialisedPod freshFields freshPod restful soundPod fieldsBounded step
+unfolding ran inRows soundParams startParams storeSized soundRing soundPlaces soundTransfer soundWords startWords listed startTable tablesSized emptyInput freshInput soundInput freshOutput soundOutput busyOf freshPipe soundPipe boundedOf packetRead packetHeard spokenBytes answered powerCall packetCall putCall wordCall loneCall samplesCall wordLent initialisedPod freshFields freshPod restful soundPod fieldsBounded step
 outward-edges = refl
 
 pub all-edges : Edges

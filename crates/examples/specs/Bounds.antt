@@ -117,12 +117,12 @@ onePast =
     ∷ fielded 0 0 0 0 0 0 0
     -- "0 to 7 bytes gathered"; "each read place at most its table's size"
     ∷ gathering 8
-    -- request No. 3, "0 to 8 bytes in hand, and output timeouts 0 to 15"
-    ∷ outward 9 15
-    ∷ outward 8 16
     ∷ placed 65 128 64
     ∷ placed 64 129 64
     ∷ placed 64 128 65
+    -- request No. 3, "0 to 8 bytes in hand, and output timeouts 0 to 15"
+    ∷ outward 9 15
+    ∷ outward 8 16
     -- "an open transfer 0 to N-1 words along, with N as its command allows, and an open read within its table"
     ∷ moving (Load (header Five 4) 4)
     ∷ moving (Load (header Five 3) 0)

@@ -2,8 +2,8 @@
 -- bound.
 -- Assumes nothing.
 use Prim.Native.Nat.{ℕ}
-use mathlib.Core.List.{List, [], _∷_, map, flatten}
-use lib.ListN.{replicate}
+use mathlib.Core.List.{List, [], _∷_, _++_, map}
+use lib.ListN.{getD, replicate}
 use Rattle.rows.specs.Rows.{Said, refused, gave}
 use Rattle.blocks.specs.declared.Store.{Store}
 use Rattle.blocks.specs.declared.Store.the-variants.{Priority, Ordinary}
@@ -24,9 +24,9 @@ refusedBy (gave g) = []
 abbrev pub refusalIn : World → Call → List ℕ
 refusalIn w c = refusedBy (step w c .told .said)
 
--- the numbers of those calls that are refused, each called on the same world
+-- call by call the number that it is refused by, 0 where it is answered, each called on the same world
 abbrev pub refusalsIn : World → List Call → List ℕ
-refusalsIn w cs = flatten (map (refusalIn w) cs)
+refusalsIn w cs = map (λ (c : Call). getD (refusalIn w c) 0 0) cs
 
 -- so many timeouts counted; the tables gone; so many blocks waiting
 abbrev pub counting : ℕ → World → World
@@ -147,8 +147,8 @@ outwardEdges awake =
     ∷ line (refusalsIn (handling 9 0 justPowered) judges) (replicate 13 3)
     ∷ line (refusalsIn (handling 0 16 justPowered) judges) (replicate 13 3)
     -- within them, only a second packet; asleep, the two puts and the four pipe calls
-    ∷ line (refusalsIn (handling 8 15 awake) judges) (21 ∷ [])
-    ∷ line (refusalsIn (handling 8 15 justPowered) judges) (replicate 6 6)
+    ∷ line (refusalsIn (handling 8 15 awake) judges) (replicate 10 0 ++ (21 ∷ 0 ∷ 0 ∷ []))
+    ∷ line (refusalsIn (handling 8 15 justPowered) judges) (0 ∷ 6 ∷ 6 ∷ replicate 5 0 ++ (replicate 4 6 ++ (0 ∷ [])))
     ∷ line (refusalIn (handling 9 16 justPowered) power) []
     ∷ []
 

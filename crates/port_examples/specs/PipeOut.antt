@@ -10,18 +10,20 @@ use lib.Seq.{sets}
 use Rattle.rows.specs.Rows.{refused, gave}
 use Rattle.params.specs.Rules.{startParams, stored}
 use Rattle.orders.specs.declared.Table.the-variants.{Five}
+use Rattle.blocks.specs.declared.Store.the-variants.{Priority}
 use Rattle.tables.specs.declared.Transfer.the-variants.{Load}
 use Rattle.tables.specs.Port.{header, startWords, withTransfer}
 use Rattle.pipe.specs.declared.Pipe.{Pipe}
 use Rattle.rules.specs.declared.Exchange.{Exchange}
+use Rattle.rules.specs.declared.Exchange.the-variants.{Closed}
 use Rattle.rules.specs.declared.Pod.{Pod}
 use Rattle.rules.specs.State.{Lent, withParams, withWords, withPipe, freshPod}
 use Rattle.rules.specs.Obey.{initialisedPod}
-use Rattle.rules.specs.Refusals.{done}
-use Rattle.rules.specs.Families.{PipeCall, byte, timeout, packetOut, taken, pipe}
-use Rattle.rules.specs.World.{world, power, lone, samples, told, next}
+use Rattle.rules.specs.Refusals.{done, reads}
+use Rattle.rules.specs.Families.{status, PipeCall, byte, timeout, packetOut, taken, deadline, pipe}
+use Rattle.rules.specs.World.{world, power, word, lone, samples, told, next}
 use Rattle.examples.specs.Shown.{justInitialised}
-use Rattle.examples.specs.Computed.{TalkTurn, asks, dusty}
+use Rattle.examples.specs.Computed.{TalkTurn, asks, brings, dusty}
 use Rattle.port_examples.specs.Packets.{Talks, success, wakes, update, updated, stocked}
 
 -- ---- the turns of a talk
@@ -32,6 +34,10 @@ yields c bs = record { call = lone (pipe c); told = told (gave done) bs }
 
 abbrev pub declines : PipeCall → ℕ → TalkTurn
 declines c n = record { call = lone (pipe c); told = told (refused n) [] }
+
+-- one byte after the other taken, each giving the next
+abbrev pub takes : List ℕ → List TalkTurn
+takes bs = map (λ (b : ℕ). yields taken (b ∷ [])) bs
 
 -- the frames of samples all 0, by bytes 0, 3 and 5 of AN03: the timeouts of both halves, 128 where bytes are gathered, 128 for busy and
 -- 4 for awake
@@ -44,12 +50,27 @@ turnsOn = record { call = power; told = told (gave done) [] }
 abbrev pub shutsDown : TalkTurn
 shutsDown = asks (0x9F ∷ 0x01 ∷ 0x05 ∷ 0xFB ∷ []) (success 0x9F 0x34 0xFC)
 
--- two packets
+-- a Status, with parameters 1, 2, 3, 6 and 7 asked in its answer, and its acknowledgement
+abbrev pub reports : TalkTurn
+reports =
+    asks (0x91 ∷ 0x01 ∷ 0x26 ∷ 0xF4 ∷ []) (0x91 ∷ 0x01 ∷ replicate 10 0 ++ (0x01 ∷ 0x02 ∷ 0x03 ∷ 0x06 ∷ 0x07 ∷ 0x00 ∷ 0x00 ∷ 0x00 ∷ 0x69 ∷ 0xC4 ∷ []))
+
+abbrev pub acknowledges91 : TalkTurn
+acknowledges91 = asks (0x91 ∷ 0x01 ∷ 0x7E ∷ 0x2F ∷ 0xFD ∷ []) []
+
+-- a deadline, and the status word of the table port
+abbrev pub runsLate : TalkTurn
+runsLate = record { call = lone deadline; told = told (gave done) [] }
+
+abbrev pub showsStatus : TalkTurn
+showsStatus = record { call = word status; told = told (gave (reads 0)) [] }
+
+-- two packets; 00 is a byte as any other, at first, amid and at last
 abbrev pub onePacket : List ℕ
 onePacket = 0xA1 ∷ 0xA2 ∷ 0xA3 ∷ 0xA4 ∷ 0xA5 ∷ 0xA6 ∷ 0xA7 ∷ 0xA8 ∷ []
 
 abbrev pub otherPacket : List ℕ
-otherPacket = 0xB1 ∷ 0xB2 ∷ 0xB3 ∷ 0xB4 ∷ 0xB5 ∷ 0xB6 ∷ 0xB7 ∷ 0xB8 ∷ []
+otherPacket = 0x00 ∷ 0xB2 ∷ 0x00 ∷ 0xB4 ∷ 0xB5 ∷ 0xB6 ∷ 0xB7 ∷ 0x00 ∷ []
 
 -- ---- asleep, from power on
 
@@ -70,7 +91,7 @@ asleepFirst =
     ∷ frame03 0x00 0 4
     ∷ []
 
--- ---- awake: one packet whole, and the rest of another dropped
+-- ---- awake: packets whole
 
 abbrev pub handedOver : List TalkTurn
 handedOver =
@@ -100,19 +121,41 @@ handedOver =
     ∷ yields taken []
     ∷ yields timeout []
     ∷ frame03 0x00 0 4
+    -- and the next packet may come as soon as the last byte of one was taken
+    ∷ yields (packetOut otherPacket) (0x00 ∷ [])
+    ∷ takes (0xB2 ∷ 0x00 ∷ 0xB4 ∷ 0xB5 ∷ 0xB6 ∷ 0xB7 ∷ 0x00 ∷ [])
+    ++ (yields taken []
+    ∷ yields (packetOut onePacket) (0xA1 ∷ [])
+    ∷ yields taken (0xA2 ∷ [])
+    ∷ frame03 0x00 0 132
+    ∷ [])
+
+-- ---- the rest of a packet dropped
+
+abbrev pub restDropped : List TalkTurn
+restDropped =
     -- "If the camera stops taking them, the rest of that packet is dropped and an output timeout is counted": once
-    ∷ yields (packetOut otherPacket) (0xB1 ∷ [])
+    yields (packetOut otherPacket) (0x00 ∷ [])
     ∷ yields taken (0xB2 ∷ [])
-    ∷ yields taken (0xB3 ∷ [])
+    ∷ yields taken (0x00 ∷ [])
     ∷ yields timeout []
     ∷ frame03 0x01 0 4
     ∷ yields taken []
     ∷ yields timeout []
     ∷ frame03 0x01 0 4
-    -- and the next packet begins anew
+    -- and the next packet begins anew; of it the last byte alone is dropped
     ∷ yields (packetOut onePacket) (0xA1 ∷ [])
-    ∷ yields taken (0xA2 ∷ [])
-    ∷ []
+    ∷ takes (0xA2 ∷ 0xA3 ∷ 0xA4 ∷ 0xA5 ∷ 0xA6 ∷ 0xA7 ∷ 0xA8 ∷ [])
+    ++ (yields timeout []
+    ∷ frame03 0x02 0 4
+    ∷ yields taken []
+    -- directly behind a timeout
+    ∷ yields (packetOut onePacket) (0xA1 ∷ [])
+    ∷ yields timeout []
+    ∷ yields (packetOut otherPacket) (0x00 ∷ [])
+    ∷ yields taken (0xB2 ∷ [])
+    ∷ frame03 0x03 0 132
+    ∷ [])
 
 -- ---- the count
 
@@ -154,7 +197,7 @@ bothHalves =
     ∷ yields (byte 3) []
     ∷ yields timeout (3 ∷ [])
     ∷ frame03 0x21 0 4
-    ∷ yields (packetOut otherPacket) (0xB1 ∷ [])
+    ∷ yields (packetOut otherPacket) (0x00 ∷ [])
     ∷ yields timeout []
     ∷ frame03 0x22 0 4
     -- "the eighth sends all eight", past a packet in hand
@@ -170,11 +213,22 @@ bothHalves =
 abbrev pub outlasting : List TalkTurn
 outlasting =
     dropsEach 1
-    ++ (yields (packetOut otherPacket) (0xB1 ∷ [])
+    ++ (yields (packetOut otherPacket) (0x00 ∷ [])
     ∷ yields taken (0xB2 ∷ [])
-    -- an Update keeps it; so does a Shutdown, and then "6 as before"
+    -- a deadline keeps it, and so do a Status, its acknowledgement, a put, a status word and an Update
+    ∷ runsLate
+    ∷ yields taken (0x00 ∷ [])
+    ∷ reports
+    ∷ yields taken (0xB4 ∷ [])
+    ∷ acknowledges91
+    ∷ yields taken (0xB5 ∷ [])
+    ∷ brings Priority 0x11
+    ∷ yields taken (0xB6 ∷ [])
+    ∷ showsStatus
+    ∷ yields taken (0xB7 ∷ [])
     ∷ update
-    ∷ yields taken (0xB3 ∷ [])
+    ∷ yields taken (0x00 ∷ [])
+    -- so does a Shutdown, and then "6 as before"
     ∷ shutsDown
     ∷ declines taken 6
     ∷ declines timeout 6
@@ -224,6 +278,7 @@ pipeMoves =
     ∷ pipeMove taken (bothSides (9 ∷ []) 2 onePacket 8 4) (bothSides (9 ∷ []) 2 onePacket 7 4)
     ∷ pipeMove (byte 5) (bothSides (9 ∷ []) 2 onePacket 7 4) (bothSides (9 ∷ 5 ∷ []) 2 onePacket 7 4)
     ∷ pipeMove timeout (bothSides (9 ∷ 5 ∷ []) 2 onePacket 7 4) (bothSides [] 3 onePacket 0 5)
+    ∷ pipeMove timeout (bothSides [] 2 onePacket 1 4) (bothSides [] 2 onePacket 0 5)
     ∷ pipeMove timeout (bothSides (9 ∷ []) 3 onePacket 0 5) (bothSides [] 4 onePacket 0 5)
     ∷ pipeMove taken (bothSides [] 4 onePacket 0 5) (bothSides [] 4 onePacket 0 5)
     ∷ []
@@ -243,10 +298,23 @@ PipeAlone =
     → map (λ (m : PipeMove). next (world (furnished x (m .before)) l) (lone (pipe (m .call)))) pipeMoves
     ≡ map (λ (m : PipeMove). world (furnished x (m .after)) l) pipeMoves
 
+-- a byte gathered, and of any packet all eight bytes or the last in hand
+abbrev pub inHand : List ℕ → List Pipe
+inHand b = bothSides (9 ∷ []) 2 b 8 4 ∷ bothSides (9 ∷ []) 2 b 1 15 ∷ []
+
+-- a deadline closes whichever exchange is open, and leaves all else of the world as it was, both halves of the pipe too
+abbrev pub DeadlineAlone : Type 0
+DeadlineAlone =
+    (x : Exchange) (l : Lent) (b : List ℕ)
+    → map (λ (i : Pipe). next (world (furnished x i) l) (lone deadline)) (inHand b)
+    ≡ map (λ (i : Pipe). world (furnished Closed i) l) (inHand b)
+
 pub record PipeOut : Type 0 where
   pub asleep : Talks (world freshPod dusty) asleepFirst
   pub awake : Talks justInitialised handedOver
+  pub dropped : Talks justInitialised restDropped
   pub counted : Talks justInitialised countedDrops
   pub both : Talks justInitialised bothHalves
   pub outlasts : Talks justInitialised outlasting
   pub alone : PipeAlone
+  pub late : DeadlineAlone
