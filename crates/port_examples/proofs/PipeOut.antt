@@ -27,7 +27,8 @@ use Rattle.rules.specs.World.{World, world, step, tells}
 use Rattle.examples.specs.Computed.{dusty}
 use Rattle.examples.proofs.Begun.{awakened, begun}
 use Rattle.port_examples.specs.Packets.{Talks}
-use Rattle.port_examples.specs.PipeOut.{asleepFirst, handedOver, restDropped, countedDrops, bothHalves, outlasting, PipeAlone, DeadlineAlone, PipeOut}
+use Rattle.port_examples.specs.PipeAlone.{PipeAlone, DeadlineAlone}
+use Rattle.port_examples.specs.PipeOut.{asleepFirst, handedOver, restDropped, countedDrops, bothHalves, outlasting, PipeOut}
 
 refused-asleep : Talks (world freshPod dusty) asleepFirst
 unfolding ran poly leaving bitIn bits bitsIn crcFrom crcOf withCrc answerOf fieldsOf fieldsIn fieldsBounded findIn listedIn codeRow isCode commandPlace commandRow numbersAt highFirst numberOf numberAt crcRight acknowledges packetRead isId inRows soundParams startParams storeSized soundRing soundPlaces soundTransfer soundWords startWords closeOf listed startTable tablesSized heldIn sentPacket sentBytes emptyInput freshInput gathers pipeByte countUp pipeTimeout soundInput gatheringOf heldOut freshOutput outputPacket outputTaken outputTimeout soundOutput busyOf freshPipe soundPipe placed frame lines03 lines47 framesOf sampleAt sumOf averageOf averagesOf boundedOf powerCall packetHeard meantBody replyBytes spokenBytes answered packetCall loneCall samplesCall pipeOf loneOf checksOf initialisedPod doneBy obeyOf freshFields freshPod restful soundPod step tells

@@ -1,4 +1,5 @@
 pub mod Packets
 pub mod Acknowledgements
+pub mod PipeAlone
 pub mod PipeOut
 pub mod PortExamples
