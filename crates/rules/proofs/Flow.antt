@@ -18,7 +18,7 @@ use Rattle.rules.specs.Obey.{initialisedPod, doneBy}
 use Rattle.rules.specs.Families.{PipeCall, byte, timeout, packetOut, taken, pipeOf}
 use Rattle.rules.specs.World.{Call, final, powered}
 use Rattle.rules.specs.History.{loneAs, events, fold}
-use Rattle.rules.specs.Halves.{toAircraft, gaveIf, Flow, noFlow, flowAfter, flowMoved, flowBy, sentBy, Flows, PipeIsHistory}
+use Rattle.rules.specs.Halves.{toAircraft, gaveIf, pipeBy, Flow, noFlow, flowAfter, flowMoved, flowBy, sentBy, Flows, PipeIsHistory}
 use Rattle.rules.proofs.Lone.{movedBy}
 use Rattle.rules.proofs.Eventful.{quiet, anew, initialised, slept, updated, wrote, began, closed, acknowledged, shelved, spoken, touched}
 use Rattle.rules.proofs.Histories.{Keeps, history, both, fold-both, powered-fresh}
@@ -104,7 +104,7 @@ moved-flows (some c) p s f x = pipe-flows c p s f x
 -- ---- over every run of calls
 
 flow-kept : Keeps (both sentBy flowBy) (λ w a. Flowing (w .pod .pipe .input) (a .0) (a .1))
-unfolding sentBy flowBy doneBy initialisedPod freshPod
+unfolding pipeBy doneBy initialisedPod freshPod
 flow-kept w _ _ quiet a x = x
 flow-kept w _ _ anew a x = flow-begun
 flow-kept w _ _ (initialised f) a x = flow-begun

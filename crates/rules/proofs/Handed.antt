@@ -23,7 +23,7 @@ use Rattle.rules.specs.Obey.{initialisedPod, doneBy}
 use Rattle.rules.specs.Families.{PipeCall, byte, timeout, packetOut, taken, pipeOf}
 use Rattle.rules.specs.World.{Call, rowsOf, final, powered}
 use Rattle.rules.specs.History.{loneAs, events, fold}
-use Rattle.rules.specs.Halves.{toCamera, gaveIf, Packet, isOver, Handing, handing, noHanding, inHand, shownIn, allOver, cutLast, takenLast, handingAfter, handingMoved, handingBy, shownBy, Hands, HandedIsHistory}
+use Rattle.rules.specs.Halves.{toCamera, gaveIf, pipeBy, Packet, isOver, Handing, handing, noHanding, inHand, shownIn, allOver, cutLast, takenLast, handingAfter, handingMoved, handingBy, shownBy, Hands, HandedIsHistory}
 use Rattle.rules.proofs.Lone.{Fits, lone-fits, movedBy}
 use Rattle.rules.proofs.Eventful.{quiet, anew, initialised, slept, updated, wrote, began, closed, acknowledged, shelved, spoken, touched}
 use Rattle.rules.proofs.Histories.{Keeps, history, both, fold-both, powered-fresh}
@@ -188,7 +188,7 @@ moved-hands (some c) p k s h x = pipe-hands c p k s h x
 -- ---- over every run of calls
 
 hands-kept : Keeps (both shownBy handingBy) (λ w a. Handled (w .pod .pipe .output) (a .0) (a .1))
-unfolding rowsOf shownBy handingBy doneBy initialisedPod freshPod
+unfolding rowsOf pipeBy doneBy initialisedPod freshPod
 hands-kept w _ _ quiet a x = x
 hands-kept w _ _ anew a x = emptied (a .0) (a .1) (x .hands .answered) (x .hands .over)
 hands-kept w _ _ (initialised f) a x = emptied (a .0) (a .1) (x .hands .answered) (x .hands .over)

@@ -14,7 +14,7 @@ use Rattle.pipe.specs.Output.{heldOut}
 use Rattle.rules.specs.State.{Lent, withPipe}
 use Rattle.rules.specs.Families.{PipeCall, byte, timeout, packetOut, taken, pipe}
 use Rattle.rules.specs.World.{World, withPod, Call, lone, next, final, powered}
-use Rattle.rules.specs.History.{Event, nothing, begins, sleeps, updates, writesParameter, opensExchange, closesExchange, hearsAcknowledgement, puts, words, touches, events, fold}
+use Rattle.rules.specs.History.{Touch, Event, nothing, begins, sleeps, updates, writesParameter, opensExchange, closesExchange, hearsAcknowledgement, puts, words, touches, events, fold}
 
 -- whose bytes go to the aircraft; all others' go to the camera
 abbrev pub toAircraft : PipeCall → Bool
@@ -30,6 +30,21 @@ toCamera c = not (toAircraft c)
 abbrev pub gaveIf : (PipeCall → Bool) → Option PipeCall → List ℕ → List ℕ
 gaveIf to none l = []
 gaveIf to (some c) l = cond (to c) l []
+
+-- a fold over the pipe's events: what power on or an accepted Initialise makes of a history, and what a call does that may move the pipe,
+-- with the bytes that it gave; no other event concerns it
+unfoldable pub pipeBy : {A : Type 0} → (A → A) → (Touch → List ℕ → A → A) → Event → A → A
+pipeBy anew moved nothing a = a
+pipeBy anew moved (begins b f) a = anew a
+pipeBy anew moved sleeps a = a
+pipeBy anew moved (updates f) a = a
+pipeBy anew moved (writesParameter id v) a = a
+pipeBy anew moved (opensExchange x) a = a
+pipeBy anew moved closesExchange a = a
+pipeBy anew moved (hearsAcknowledgement first one) a = a
+pipeBy anew moved (puts s b) a = a
+pipeBy anew moved (words c) a = a
+pipeBy anew moved (touches t l) a = moved t l a
 
 -- ---- the input half, since the beginning: by the calls' own inputs, and by the bytes that they gave
 
@@ -58,32 +73,12 @@ abbrev pub flowMoved : Option PipeCall → Flow → Flow
 flowMoved none f = f
 flowMoved (some c) f = flowAfter c f
 
-unfoldable pub flowBy : Event → Flow → Flow
-flowBy nothing f = f
-flowBy (begins a g) f = noFlow
-flowBy sleeps f = f
-flowBy (updates g) f = f
-flowBy (writesParameter id v) f = f
-flowBy (opensExchange x) f = f
-flowBy closesExchange f = f
-flowBy (hearsAcknowledgement first one) f = f
-flowBy (puts s b) f = f
-flowBy (words c) f = f
-flowBy (touches t l) f = flowMoved (t .moves) f
+abbrev pub flowBy : Event → Flow → Flow
+flowBy = pipeBy (λ f. noFlow) (λ t l f. flowMoved (t .moves) f)
 
 -- the bytes sent to the aircraft
-unfoldable pub sentBy : Event → List ℕ → List ℕ
-sentBy nothing s = s
-sentBy (begins a f) s = []
-sentBy sleeps s = s
-sentBy (updates f) s = s
-sentBy (writesParameter id v) s = s
-sentBy (opensExchange x) s = s
-sentBy closesExchange s = s
-sentBy (hearsAcknowledgement first one) s = s
-sentBy (puts r b) s = s
-sentBy (words c) s = s
-sentBy (touches t l) s = s ++ gaveIf toAircraft (t .moves) l
+abbrev pub sentBy : Event → List ℕ → List ℕ
+sentBy = pipeBy (λ s. []) (λ t l s. s ++ gaveIf toAircraft (t .moves) l)
 
 -- an input, by the bytes sent so far and by what the calls put in
 pub record Flows (i : Input) (sent : List ℕ) (f : Flow) : Type 0 where
@@ -171,33 +166,13 @@ abbrev pub handingMoved : Option PipeCall → Handing → Handing
 handingMoved none h = h
 handingMoved (some c) h = handingAfter c h
 
-unfoldable pub handingBy : Event → Handing → Handing
-handingBy nothing h = h
 -- power on, and "Initialise empties this half too and sets its count to 0"
-handingBy (begins a f) h = handing (cutLast (h .packets)) 0
-handingBy sleeps h = h
-handingBy (updates f) h = h
-handingBy (writesParameter id v) h = h
-handingBy (opensExchange x) h = h
-handingBy closesExchange h = h
-handingBy (hearsAcknowledgement first one) h = h
-handingBy (puts s b) h = h
-handingBy (words c) h = h
-handingBy (touches t l) h = handingMoved (t .moves) h
+abbrev pub handingBy : Event → Handing → Handing
+handingBy = pipeBy (λ h. handing (cutLast (h .packets)) 0) (λ t l h. handingMoved (t .moves) h)
 
 -- the bytes shown to the camera, all since the first power on
-unfoldable pub shownBy : Event → List ℕ → List ℕ
-shownBy nothing s = s
-shownBy (begins a f) s = s
-shownBy sleeps s = s
-shownBy (updates f) s = s
-shownBy (writesParameter id v) s = s
-shownBy (opensExchange x) s = s
-shownBy closesExchange s = s
-shownBy (hearsAcknowledgement first one) s = s
-shownBy (puts r b) s = s
-shownBy (words c) s = s
-shownBy (touches t l) s = s ++ gaveIf toCamera (t .moves) l
+abbrev pub shownBy : Event → List ℕ → List ℕ
+shownBy = pipeBy (λ s. s) (λ t l s. s ++ gaveIf toCamera (t .moves) l)
 
 -- an output, by the bytes shown so far and by the calls
 pub record Hands (o : Output) (shown : List ℕ) (h : Handing) : Type 0 where
