@@ -59,11 +59,11 @@ abbrev pub counting : ℕ → Pipe → Pipe
 counting n i = record { input = record { bytes = i .input .bytes; gathered = i .input .gathered; timeouts = n }; output = i .output }
 
 -- of request No. 3's half: `out` n, n bytes of 0 in hand
-abbrev pub handing : ℕ → Pipe → Pipe
-handing n i = record { input = i .input; output = record { bytes = replicate 8 0; hand = n; timeouts = i .output .timeouts } }
+abbrev pub holdsOut : ℕ → Pipe → Pipe
+holdsOut n i = record { input = i .input; output = record { bytes = replicate 8 0; hand = n; timeouts = i .output .timeouts } }
 
-abbrev pub dropping : ℕ → Pipe → Pipe
-dropping n i = record { input = i .input; output = record { bytes = i .output .bytes; hand = i .output .hand; timeouts = n } }
+abbrev pub countsOut : ℕ → Pipe → Pipe
+countsOut n i = record { input = i .input; output = record { bytes = i .output .bytes; hand = i .output .hand; timeouts = n } }
 
 abbrev pub ring : ℕ → ℕ → Ring
 ring oldest waiting = record { oldest = oldest; waiting = waiting }
@@ -78,8 +78,8 @@ cellSet (Oldest s) n p = withRing s (ring n (ringOf s p .waiting)) p
 cellSet (Waiting s) n p = withRing s (ring (ringOf s p .oldest) n) p
 cellSet Gathered n p = withPipe (gathering n (p .pipe)) p
 cellSet Timeouts n p = withPipe (counting n (p .pipe)) p
-cellSet Out n p = withPipe (handing n (p .pipe)) p
-cellSet Outtimeouts n p = withPipe (dropping n (p .pipe)) p
+cellSet Out n p = withPipe (holdsOut n (p .pipe)) p
+cellSet Outtimeouts n p = withPipe (countsOut n (p .pipe)) p
 
 -- what a line of X sets; a line of L sets nothing
 unfoldable pub partSet : Change → Pod → Pod

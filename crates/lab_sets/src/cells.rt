@@ -24,7 +24,7 @@ ghost use Rattle.tables.specs.Tables.{withReadPlace};
 ghost use Rattle.tables.specs.Port.{withError, withPlaces};
 ghost use Rattle.rules.specs.State.{withInitialised, withFields, withRing, withWords, withPipe, ringOf};
 ghost use Rattle.lab_sets.specs.Ranges.{fieldMost, cellMost};
-ghost use Rattle.lab_sets.specs.Setting.{fieldSet, ring, gathering, counting, handing, dropping, cellSet};
+ghost use Rattle.lab_sets.specs.Setting.{fieldSet, ring, gathering, counting, holdsOut, countsOut, cellSet};
 
 fn fields_set(pod: Pod, field: Field, n: u64) -> Pod
     requires { ⌜ n ≤ fieldMost field ⌝ }
@@ -106,7 +106,7 @@ fn timeouts_set(pipe: Pipe, n: u8) -> Pipe
 
 // So many bytes of 0 in hand.
 fn out_set(pipe: Pipe, n: u8) -> Pipe
-    ensures { λ r. ⌜ r ≡ handing n pipe ⌝ }
+    ensures { λ r. ⌜ r ≡ holdsOut n pipe ⌝ }
 {
     let input = pipe.input;
     let output = pipe.output;
@@ -121,7 +121,7 @@ fn out_set(pipe: Pipe, n: u8) -> Pipe
 }
 
 fn outtimeouts_set(pipe: Pipe, n: u8) -> Pipe
-    ensures { λ r. ⌜ r ≡ dropping n pipe ⌝ }
+    ensures { λ r. ⌜ r ≡ countsOut n pipe ⌝ }
 {
     let input = pipe.input;
     let mut output = pipe.output;

@@ -64,11 +64,11 @@ unfoldable pub packetIn : List ℕ → Asking
 packetIn t = cond (eqb (getD t 0 0) letterP) (packing (bytesIn (drop 1 t))) unasked
 
 -- `O` bytes
-abbrev pub handing : ItemsRead → Asking
-handing r = asking (wholly r askOut) (r .values) []
+abbrev pub offering : ItemsRead → Asking
+offering r = asking (wholly r askOut) (r .values) []
 
 unfoldable pub outIn : List ℕ → Asking
-outIn t = handing (bytesIn (drop 1 t))
+outIn t = offering (bytesIn (drop 1 t))
 
 -- `B p` bytes, `B o` bytes
 abbrev pub isPut : ℕ → List ℕ → Bool

@@ -23,7 +23,7 @@ use Rattle.rules.specs.Obey.{initialisedPod, doneBy}
 use Rattle.rules.specs.Families.{PipeCall, byte, timeout, packetOut, taken, pipeOf}
 use Rattle.rules.specs.World.{Call, rowsOf, final, powered}
 use Rattle.rules.specs.History.{loneAs, events, fold}
-use Rattle.rules.specs.Halves.{toCamera, gaveIf, pipeBy, Packet, isOver, Handing, handing, noHanding, inHand, shownIn, allOver, cutLast, takenLast, handingAfter, handingMoved, handingBy, shownBy, Hands, HandedIsHistory}
+use Rattle.rules.specs.Halves.{toCamera, gaveIf, pipeBy, Packet, packetOver, Handing, handing, noHanding, inHand, bytesShown, allOver, cutLast, takenLast, handingAfter, handingMoved, handingBy, shownBy, Hands, HandedIsHistory}
 use Rattle.rules.proofs.Lone.{Fits, lone-fits, movedBy}
 use Rattle.rules.proofs.Eventful.{quiet, anew, initialised, slept, updated, wrote, began, closed, acknowledged, shelved, spoken, touched}
 use Rattle.rules.proofs.Histories.{Keeps, history, both, fold-both, powered-fresh}
@@ -45,8 +45,8 @@ many-held o s h x = sym (x .hands .count)
 -- ---- packets
 
 -- cut or not, the bytes shown are the same, and none is in hand
-shown-cut : (qs : List Packet) → shownIn (cutLast qs) ≡ shownIn qs
-unfolding shownIn
+shown-cut : (qs : List Packet) → bytesShown (cutLast qs) ≡ bytesShown qs
+unfolding bytesShown
 shown-cut [] = refl
 shown-cut (q ∷ qs) = refl
 
@@ -67,18 +67,18 @@ hand-taken : (qs : List Packet) → inHand (takenLast qs) ≡ drop 1 (inHand qs)
 hand-taken [] = refl
 hand-taken (q ∷ qs) = split (q .cut) (λ e. rw e) (λ e. rw e (sym (drop-drop 1 (q .takens) (q .bytes))))
 
-shown-taken : (qs : List Packet) → shownIn (takenLast qs) ≡ shownIn qs ++ take 1 (drop 1 (inHand qs))
-unfolding shownIn
+shown-taken : (qs : List Packet) → bytesShown (takenLast qs) ≡ bytesShown qs ++ take 1 (drop 1 (inHand qs))
+unfolding bytesShown
 shown-taken [] = refl
 shown-taken (q ∷ qs) =
     split (q .cut) (λ e. rw e (sym (append-nil _)))
-    (λ e. rw (e, drop-drop 1 (q .takens) (q .bytes)) (ap (λ (l : List ℕ). shownIn qs ++ l) (take-add (q .takens + 1) 1 (q .bytes)) ∙ sym (append-assoc (shownIn qs) _ _)))
+    (λ e. rw (e, drop-drop 1 (q .takens) (q .bytes)) (ap (λ (l : List ℕ). bytesShown qs ++ l) (take-add (q .takens + 1) 1 (q .bytes)) ∙ sym (append-assoc (bytesShown qs) _ _)))
 
 -- with none in hand all packets are over
 all-over : (qs : List Packet) → length (inHand qs) ≡ 0 → allOver (drop 1 qs) ≡ true → allOver qs ≡ true
 unfolding allOver
 all-over [] gone h = h
-all-over (q ∷ qs) gone h = and-both {a = isOver q} (split (q .cut) (λ e. rw e) (λ e. rw (e, ended e))) h
+all-over (q ∷ qs) gone h = and-both {a = packetOver q} (split (q .cut) (λ e. rw e) (λ e. rw (e, ended e))) h
   where
     ended : q .cut ≡ false → leb (length (q .bytes)) (q .takens) ≡ true
     ended e =
@@ -88,7 +88,7 @@ all-over (q ∷ qs) gone h = and-both {a = isOver q} (split (q .cut) (λ e. rw e
 -- ---- each pipe call
 
 -- nothing in hand and nothing counted, whatever was shown before
-emptied : (s : List ℕ) (h : Handing) → s ≡ shownIn (h .packets) → allOver (drop 1 (h .packets)) ≡ true
+emptied : (s : List ℕ) (h : Handing) → s ≡ bytesShown (h .packets) → allOver (drop 1 (h .packets)) ≡ true
     → Handled (freshPipe .output) s (handing (cutLast (h .packets)) 0)
 unfolding freshPipe freshOutput heldOut
 emptied s h e o =
@@ -157,7 +157,7 @@ module _ (o : Output) (s : List ℕ) (h : Handing) (x : Handled o s h) where
 
   packet-hands : (b : List ℕ) → length b ≡ 8 → busyOf o ≡ false
       → Handled (outputPacket o b .output) (s ++ sentBytes (outputPacket o b .sent)) (handingAfter (packetOut b) h)
-  unfolding handingAfter shownIn
+  unfolding handingAfter bytesShown
   packet-hands b eight idle =
       record {
         hands = record {
@@ -204,7 +204,7 @@ hands-kept w _ _ (touched c k) a x = moved-hands (loneAs c .moves) (w .pod .pipe
 
 pub handed-is : (l : Lent) (cs : List Call)
     → Handled (final (powered l) cs .pod .pipe .output) (fold shownBy [] (events (powered l) cs)) (fold handingBy noHanding (events (powered l) cs))
-unfolding freshPod shownIn allOver
+unfolding freshPod bytesShown allOver
 handed-is l cs =
     rw (fold-both shownBy handingBy (events (powered l) cs) ([], noHanding)) at
     (history (both shownBy handingBy) (λ w a. Handled (w .pod .pipe .output) (a .0) (a .1)) hands-kept cs (powered l) ([], noHanding)

@@ -115,8 +115,8 @@ abbrev pub handOf : Packet → List ℕ
 handOf q = cond (q .cut) [] (drop (q .takens) (q .bytes))
 
 -- all were taken, or the rest was dropped
-abbrev pub isOver : Packet → Bool
-isOver q = q .cut || leb (length (q .bytes)) (q .takens)
+abbrev pub packetOver : Packet → Bool
+packetOver q = q .cut || leb (length (q .bytes)) (q .takens)
 
 -- all packets that were accepted, the last one first, and the timeouts since the last power on or accepted Initialise that dropped
 -- something
@@ -136,13 +136,13 @@ inHand [] = []
 inHand (q ∷ qs) = handOf q
 
 -- all bytes shown, in the order of the packets
-unfoldable pub shownIn : List Packet → List ℕ
-shownIn [] = []
-shownIn (q ∷ qs) = shownIn qs ++ shownOf q
+unfoldable pub bytesShown : List Packet → List ℕ
+bytesShown [] = []
+bytesShown (q ∷ qs) = bytesShown qs ++ shownOf q
 
 unfoldable pub allOver : List Packet → Bool
 allOver [] = true
-allOver (q ∷ qs) = isOver q && allOver qs
+allOver (q ∷ qs) = packetOver q && allOver qs
 
 -- the last packet is cut
 abbrev pub cutLast : List Packet → List Packet
@@ -177,7 +177,7 @@ shownBy = pipeBy (λ s. s) (λ t l s. s ++ gaveIf toCamera (t .moves) l)
 -- an output, by the bytes shown so far and by the calls
 pub record Hands (o : Output) (shown : List ℕ) (h : Handing) : Type 0 where
   -- they are, in order, the first bytes of each accepted packet
-  pub answered : shown ≡ shownIn (h .packets)
+  pub answered : shown ≡ bytesShown (h .packets)
   pub hand : heldOut o ≡ inHand (h .packets)
   -- and so 21 is by the history: "a packet while one is being handed over"
   pub count : o .hand ≡ length (inHand (h .packets))
