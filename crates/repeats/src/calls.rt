@@ -25,12 +25,17 @@ pub enum Flow {
     Out,
 }
 
+pub enum Shown {
+    Samples,
+    Sum,
+}
+
 pub enum Call {
     Other,
     Port(Port),
     Word(Word),
     Pipe(Flow),
-    Samples,
+    Shown(Shown),
 }
 
 pub fn call_of(letter: u8) -> Call {
@@ -46,7 +51,8 @@ pub fn call_of(letter: u8) -> Call {
         b'T' => Call::Pipe(Flow::Timeout),
         b'O' => Call::Pipe(Flow::Out),
         b'K' => Call::Pipe(Flow::Out),
-        b'A' => Call::Samples,
+        b'A' => Call::Shown(Shown::Samples),
+        b'Y' => Call::Shown(Shown::Sum),
         _ => Call::Other,
     }
 }
@@ -114,9 +120,23 @@ pub fn passed(flow: Flow, pod: Pod, byte: u8, turn: usize) -> Passed {
     }
 }
 
-// A byte goes in, and something of what the frames show comes back.
-pub fn shown(pod: Pod, byte: u8, samples: &[u16; 128]) -> u16 {
-    let framed = pod::samples(pod, byte % 32, samples);
-    let frames = framed.frames;
-    number(0, frames.an03[7] / 4)
+// A byte goes in, and something of what the call gives comes back.
+pub fn value_of(
+    kind: Shown,
+    pod: Pod,
+    byte: u8,
+    samples: &[u16; 128],
+    message: &mut [u8; 258],
+) -> u16 {
+    match kind {
+        Shown::Samples => {
+            let framed = pod::samples(pod, byte % 32, samples);
+            let frames = framed.frames;
+            number(0, frames.an03[7] / 4)
+        }
+        Shown::Sum => {
+            message[0] = byte;
+            crc::crc_of(message)
+        }
+    }
 }

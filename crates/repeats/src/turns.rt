@@ -2,7 +2,7 @@
 use crate::calls::Call;
 use crate::calls::passed;
 use crate::calls::ported;
-use crate::calls::shown;
+use crate::calls::value_of;
 use crate::calls::worded;
 use crate::setup::fill;
 use crate::setup::two_words;
@@ -16,6 +16,7 @@ fn repeated(
     start: Pod,
     word: u16,
     bytes: &[u8],
+    message: &mut [u8; 258],
     room: &mut [u8; 260],
     priority: &[u8; 4096],
     ordinary: &mut [u8; 32768],
@@ -45,8 +46,8 @@ fn repeated(
                 pod = sent.pod;
                 answer = sent.answer;
             }
-            Call::Samples => {
-                let value = shown(pod, byte, six);
+            Call::Shown(kind) => {
+                let value = value_of(kind, pod, byte, six, message);
                 byte = (value % 256) as u8;
                 answer = Answer::Word(value);
             }
@@ -64,12 +65,14 @@ pub fn prepared(
     bytes: &[u8],
     room: &mut [u8; 260],
 ) -> Answer {
+    let mut message = [0u8; 258];
     let priority = [0u8; 4096];
     let mut ordinary = [0u8; 32768];
     let mut load = [0u16; 64];
     let mut five = [0u16; 64];
     let mut six = [7u16; 128];
     let mut seven = [0u16; 64];
+    fill(&mut message);
     fill(&mut ordinary);
     let given = two_words(bytes);
     let mut pod = start;
@@ -84,6 +87,7 @@ pub fn prepared(
         pod,
         given[1],
         bytes,
+        &mut message,
         room,
         &priority,
         &mut ordinary,
