@@ -1,3 +1,2 @@
-pub mod Ones
 pub mod Orders
 pub mod Lengths

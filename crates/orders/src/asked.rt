@@ -4,27 +4,13 @@ use crate::Parts;
 use crate::Table;
 ghost use mathlib.Core.Path.{_≡_};
 ghost use Prim.Native.Nat.{_≤_};
-ghost use Rattle.orders.specs.Command.{oddOnes, partsOf, writes, lengthAllowed, transferAsked, tableAsked, orderOf, orderHeard, orderSaid};
-
-// Whether the count of ones is odd.
-fn odd_ones(word: u16) -> bool
-    ensures { λ r. ⌜ r ≡ oddOnes word ⌝ }
-{
-    let mut rest = word;
-    let mut count: u16 = 0;
-    for i in 0..16usize {
-        count += rest % 2;
-        rest = rest / 2;
-    }
-    count % 2 == 1
-}
+ghost use Rattle.orders.specs.Command.{partsOf, writes, lengthAllowed, transferAsked, tableAsked, orderOf, orderHeard, orderSaid};
 
 fn parts(word: u16) -> Parts
     ensures { λ r. ⌜ r ≡ partsOf word ⌝ }
 {
-    let odd = odd_ones(word);
     Parts {
-        odd,
+        odd: u16::count_ones(word) % 2 == 1,
         reads: word / 0x4000 % 2 == 1,
         command: word / 0x200 % 0x20,
         n: word % 0x200,
