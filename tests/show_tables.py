@@ -30,16 +30,15 @@ def accepted(word):
 
 
 def lines():
-    """A line for each direction, command and N that is accepted, and the total."""
-    counts = {}
-    for word in range(65536):
-        if accepted(word):
-            key = word % 32768
-            counts[key] = counts.get(key, 0) + 1
-    for key in sorted(counts):
-        way = "read" if key >= 16384 else "write"
-        yield f"{way} {key // 512 % 32} N {key % 512}: {counts[key]}"
-    yield f"accepted {sum(counts.values())} of 65536"
+    """A line for each word that is accepted, the two that differ in bit 15 alone side by side, and the total."""
+    total = 0
+    for low in range(32768):
+        for word in (low, low + 32768):
+            if accepted(word):
+                total += 1
+                way = "read" if word >> 14 & 1 else "write"
+                yield f"parity {word >> 15} {way} {word >> 9 & 31} N {word & 511}"
+    yield f"accepted {total} of 65536"
 
 
 if __name__ == "__main__":

@@ -1,4 +1,4 @@
-"""Pods that are wrong in one rule of request No. 3: the seeded sessions and the stored lines of
+"""Pods that are wrong in one rule that a request touched: the seeded sessions and the stored lines of
 `lab` must notice each, or they could not notice a program that is wrong so."""
 
 import sessions
@@ -6,7 +6,7 @@ import stored
 from model import console_line
 from ports.lab import lab_line
 
-from . import handing, kept, timeouts  # each names its own in WRONG
+from . import handing, kept, parity, timeouts  # each names its own in WRONG
 from .named import WRONG
 
 SESSIONS = 100

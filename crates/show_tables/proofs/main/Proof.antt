@@ -7,5 +7,5 @@ use Rattle.show_tables.proofs.main.Tie as tie
 pub main-spec : {M : Type 1} → statement M
 main-spec =
     tie.close (tie.spec (λ total₀ low₀ total low. (low ≤ 32768) × (total ≤ 2 * low)) (λ total₀ low₀ total low. 32768 - low) (λ c. search needs)
-    (λ c κs. search needs) (λ c κs. search needs) (λ c. search needs) (λ c. search needs) (λ c. search needs) (λ c. search needs)
-    (λ c κs. search needs) (λ c. search needs))
+    (λ c κs. search needs) (λ c. search needs) (λ c κs. search needs) (λ c. search needs) (λ c. search needs) (λ c. search needs)
+    (λ c. search needs) (λ c. search needs) (λ c κs. search needs) (λ c. search needs))
