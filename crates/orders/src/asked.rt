@@ -6,6 +6,7 @@ ghost use mathlib.Core.Path.{_≡_};
 ghost use Prim.Native.Nat.{_≤_};
 ghost use Rattle.orders.specs.Command.{partsOf, writes, lengthAllowed, transferAsked, tableAsked, orderOf, orderHeard, orderSaid};
 
+// The parts of a command word. All sixteen bits count for the parity, bit 15 too.
 fn parts(word: u16) -> Parts
     ensures { λ r. ⌜ r ≡ partsOf word ⌝ }
 {

@@ -180,7 +180,7 @@ def bad_command(s):
     table = rng.choice((5, 6, 7))
     say_command(s, rng.choice((
         command_word(table, some_n(rng), rng.choice((0, READ))) ^ 0x8000,
-        0x0000,
+        command_word(*rng.choice(((0, 0), (0, 1), (1, 1)))) ^ 0x8000,
         command_word(0, rng.choice((2, 3, 256, 511))),
         command_word(0, rng.choice((0, 1, 2)), READ),
         command_word(1, rng.choice((0, 2, 257, 511))),

@@ -1,4 +1,4 @@
-"""Pods that are wrong in one rule that a request touched: the seeded sessions and the stored lines of
+"""Pods that are wrong in one rule that a request is about: the seeded sessions and the stored lines of
 `lab` must notice each, or they could not notice a program that is wrong so."""
 
 import sessions
