@@ -18,8 +18,9 @@ use Rattle.packets.specs.declared.Command.{Command}
 use Rattle.packets.specs.declared.Command.the-variants.{Initialise, Status, Update, Write, Read, Priority, Data, Shutdown}
 use Rattle.packets.specs.Commands.{fieldsBounded}
 use Rattle.params.specs.declared.Params.{Params}
-use Rattle.params.specs.Rows.{paramRows, paramRow}
-use Rattle.params.specs.Rules.{isId, valueAt, inRow, inSpan, inRows, stored, soundParams, writeAllowed}
+use Rattle.params.specs.Rows.{paramRow}
+use Rattle.params.specs.Rules.{isId, valueAt, inRow, inSpan, stored, writeAllowed}
+use Rattle.params.proofs.Inside.{in-span}
 use Rattle.params.proofs.Laws.{id-within}
 use Rattle.rules.specs.declared.Pod.{Pod}
 use Rattle.rules.specs.State.{Lent}
@@ -182,9 +183,8 @@ outside-said c l p =
     (λ n f e. first-outside c p (rw (← (refused-same e)) f)) (λ k e. absurd (gave-not e))
 
 pub bounds-shared : BoundsShared
-unfolding soundParams
 bounds-shared c l p sound a =
-    let span = and-right (inRows paramRows (p .params .values)) (inSpan (p .params)) (pod-in p sound .params) in
+    let span = in-span (p .params) (pod-in p sound .params) in
     record {
       outside = λ h k. said-outside c l p a (fits-not c p h k);
       spoilt = λ h. said-outside c l p a (spoils-not c p h);

@@ -18,7 +18,7 @@ use Rattle.packets.specs.Commands.{commandRow, commandPlace}
 use Rattle.packets.specs.Reading.{third}
 use Rattle.packets.specs.Answers.{withCrc, answerOf}
 use Rattle.params.specs.Rules.{valueAt}
-use Rattle.params.proofs.Laws.{missing-length}
+use Rattle.params.proofs.Inside.{kept-length}
 use Rattle.params.proofs.Narrow.{value-small}
 use Rattle.rules.specs.declared.Pod.{Pod}
 use Rattle.rules.specs.State.{Lent, storeIn}
@@ -49,7 +49,7 @@ module _ (l : Lent) (p : Pod) (inside : PodIn p) (flags : p .fields .flags < 2 ^
   done-read (Initialise f) q = shown (Initialise f) q refl
   done-read Status q =
       shown Status q refl
-      ∙ ap gave (report-back 0x91 (reportOf p) flags (omega (arith, bounds 16 (p .priority) (inside .priority))) (omega (arith, bounds 128 (p .ordinary) (inside .ordinary))) (missing-length (p .params)))
+      ∙ ap gave (report-back 0x91 (reportOf p) flags (omega (arith, bounds 16 (p .priority) (inside .priority))) (omega (arith, bounds 128 (p .ordinary) (inside .ordinary))) (kept-length (p .params) (inside .params)))
   done-read (Update f) q = shown (Update f) q refl
   done-read (Write id v) q = shown (Write id v) q refl
   done-read (Read id) q = shown (Read id) q refl ∙ ap gave (value-back 0x94 id (valueAt (p .params) id) (value-small (p .params) id (inside .params)))

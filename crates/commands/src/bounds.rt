@@ -22,10 +22,13 @@ fn closed(exchange: Exchange) -> bool
 fn restful(pod: Pod) -> bool
     ensures { λ r. ⌜ r ≡ restful pod ⌝ }
 {
+    if pod.initialised {
+        return true;
+    }
     let exchange = pod.exchange;
     let words = pod.words;
     let transfer = words.transfer;
-    pod.initialised | (closed(exchange) & tables::idle(transfer))
+    closed(exchange) & tables::idle(transfer)
 }
 
 fn ring_sound(pod: Pod, which: Store) -> bool

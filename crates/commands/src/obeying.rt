@@ -161,7 +161,7 @@ pub fn report(pod: Pod) -> Report
     ensures { λ r. ⌜ r ≡ reportOf pod ⌝ }
 {
     let params = pod.params;
-    let ids = params::missing(params);
+    let ids = params.missing;
     Report {
         mode: pod.fields.mode,
         flags: pod.fields.flags,

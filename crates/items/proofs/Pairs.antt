@@ -1,17 +1,15 @@
 -- Two digits at once, one in each byte of a number of 16 bits.
 -- Assumes nothing.
 use mathlib.Core.Path.{_≡_, refl, ap₂, _∙_}
-use mathlib.Core.Bool.{Bool, true, false, _&&_, and-false, cond}
-use mathlib.Core.Logic.{⊎-elim}
-use Prim.Native.Nat.{ℕ, zero, suc, _+_, _-_, _*_, _/_, _%_, _^_, _<_, _≤_}
-use native.Mathlib.Nat.{not-suc-le-zero, le-of-suc-le-suc, eq-or-lt-of-le}
+use mathlib.Core.Bool.{Bool, true, false, and-false, cond}
+use Prim.Native.Nat.{ℕ, _+_, _-_, _*_, _/_, _%_, _^_, _<_, _≤_}
 use native.Mathlib.Omega.{arith}
 use lib.Dec.{eqb, ltb}
 use lib.Bits.{bitAnd, and-block, and-mask}
 use lib.Pow.{pow-mono}
 use borrow.Author.Tests.{eqb-true, eq-eqb, lt-ltb}
 use Rattle.items.specs.Text.{digitValue, pairIn}
-use Rattle.rows.proofs.Bool.{split, and-left, and-right}
+use Rattle.rows.proofs.Bool.{split, every, every-at}
 
 -- the k lowest digits of both bytes
 both-low : (k a r : ℕ) → k ≤ 8 → r < 256 → bitAnd (a * 256 + r) ((2 ^ k - 1) * 256 + (2 ^ k - 1)) ≡ (a % 2 ^ k) * 256 + r % 2 ^ k
@@ -32,25 +30,15 @@ again c = digit c + 48 + (digit c + 6) / 16 % 2 * 7
 abbrev test : ℕ → Bool
 test c = cond (eqb (again c) c) (eqb (digitValue c) (digit c)) (eqb (digitValue c) 16)
 
-abbrev every : ℕ → Bool
-every zero = true
-every (suc n) = test n && every n
-
-every-at : (n c : ℕ) → every n ≡ true → c < n → test c ≡ true
-every-at zero c t h = absurd (not-suc-le-zero h)
-every-at (suc n) c t h =
-    ⊎-elim (λ e. rw e (and-left (test n) (every n) t)) (λ l. every-at n c (and-right (test n) (every n) t) l)
-    (eq-or-lt-of-le (le-of-suc-le-suc h))
-
-all : every 256 ≡ true
+all : every test 256 ≡ true
 unfolding digitValue
 all = refl
 
 right : (c : ℕ) → c < 256 → eqb (again c) c ≡ true → digitValue c ≡ digit c
-right c h e = eqb-true (digitValue c) (digit c) (rw e at (every-at 256 c all h))
+right c h e = eqb-true (digitValue c) (digit c) (rw e at (every-at test 256 c all h))
 
 wrong : (c : ℕ) → c < 256 → eqb (again c) c ≡ false → digitValue c ≡ 16
-wrong c h e = eqb-true (digitValue c) 16 (rw e at (every-at 256 c all h))
+wrong c h e = eqb-true (digitValue c) 16 (rw e at (every-at test 256 c all h))
 
 -- bytes that make the same number are the same
 apart : (a b c d : ℕ) → b < 256 → d < 256 → a * 256 + b ≡ c * 256 + d → (a ≡ c) × (b ≡ d)

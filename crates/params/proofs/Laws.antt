@@ -1,22 +1,22 @@
 -- What follows from the rules of the parameters, said so that whoever cites a law need open no definition.
 use mathlib.Core.Path.{_≡_, refl, ap, _∙_}
-use mathlib.Core.Bool.{Bool, true, false, not, _&&_, cond, and-eq-true-iff, false≢true}
-use mathlib.Core.List.{List, [], _∷_}
+use mathlib.Core.Bool.{true, false, _&&_, cond, and-eq-true-iff}
+use mathlib.Core.List.{List}
 use mathlib.Core.Logic.{inl, inr}
-use Prim.Native.Nat.{ℕ, zero, suc, _-_, _≤_, _<_}
+use Prim.Native.Nat.{ℕ, _-_, _≤_, _<_}
 use native.Mathlib.Omega.{arith}
-use borrow.Author.Tests.{leb-true, le-leb, lt-leb}
-use lib.Dec.{leb}
+use borrow.Author.Tests.{leb-true, le-leb, lt-leb, eqb-true, eqb-false}
+use lib.Dec.{leb, eqb}
 use lib.IntN.{ℤ}
 use lib.ListN.{length, getD, set, replicate, List·getD-map}
-use lib.Seq.{length-sets}
+use lib.Seq.{getD-set-same, getD-set-other}
 use Rattle.params.specs.declared.ParamRow.{ParamRow}
 use Rattle.params.specs.declared.Params.{Params}
 use Rattle.params.specs.declared.Reading.{Reading}
 use Rattle.params.specs.declared.Reading.the-variants.{Held, Unknown}
-use Rattle.rows.proofs.Bool.{by-test}
-use Rattle.params.specs.Rows.{paramRows, paramIds, noParamRow, paramRow}
-use Rattle.params.specs.Rules.{isId, valueAt, marked, inRow, inSpan, inRows, soundParams, startParams, stored, writeAllowed, writeOf, outsideError, valueRead, readingSaid, filter, isMissing, missingIds, missingOf}
+use Rattle.rows.proofs.Bool.{by-test, split}
+use Rattle.params.specs.Rows.{paramRows, noParamRow, paramRow}
+use Rattle.params.specs.Rules.{isId, valueAt, inRow, inSpan, startParams, stored, writeAllowed, writeOf, outsideError, valueRead, readingSaid}
 
 -- ---- ids
 
@@ -62,25 +62,7 @@ said-once Unknown (Held v) e = cc
 said-once (Held v) Unknown e = cc
 said-once (Held v) (Held w) e = cc
 
--- ---- sound
-
--- a store of a value that is in its row leaves each in its row
-rows-kept : (rs : List ParamRow) (vs : List ℤ) (k : ℕ) (v : ℤ) → inRow (getD rs k noParamRow) v ≡ true → inRows rs vs ≡ true → inRows rs (set vs k v) ≡ true
-unfolding inRows
-rows-kept [] [] k v f h = refl
-rows-kept [] (x ∷ vs) k v f h = absurd (false≢true h)
-rows-kept (r ∷ rs) [] k v f h = absurd (false≢true h)
-rows-kept (r ∷ rs) (x ∷ vs) zero v f h = and-eq-true-iff (inRow r v) (inRows rs vs) .1 (f, and-eq-true-iff (inRow r x) (inRows rs vs) .0 h .1)
-rows-kept (r ∷ rs) (x ∷ vs) (suc k) v f h =
-    let both = and-eq-true-iff (inRow r x) (inRows rs vs) .0 h in
-    and-eq-true-iff (inRow r x) (inRows rs (set vs k v)) .1 (both .0, rows-kept rs vs k v f (both .1))
-
 -- ---- starts
-
--- the starts are sound
-pub start-sound : soundParams startParams ≡ true
-unfolding soundParams inRows startParams
-start-sound = refl
 
 -- at the starts an id reads as its row's start
 pub start-held : (id : ℕ) → isId id ≡ true → valueRead startParams id ≡ inr (paramRow id .start)
@@ -125,36 +107,10 @@ module _ (p : Params) (id : ℕ) (v : ℤ) where
   unfolding writeOf writeAllowed
   taken-id e = and-eq-true-iff (isId id) (inRow (paramRow id) v && inSpan (stored p id v)) .0 e .0
 
-  -- a write keeps a sound state sound
-  pub write-sound : soundParams p ≡ true → soundParams (writeOf p id v .params) ≡ true
-  unfolding soundParams
-  write-sound h =
-      by-write (λ q. soundParams q ≡ true)
-      (λ e.
-      let both = and-eq-true-iff (inRow (paramRow id) v) (inSpan (stored p id v)) .0 (cc (id-taken (taken-id e))) in
-      and-eq-true-iff (inRows paramRows (set (p .values) (id - 1) v)) (inSpan (stored p id v)) .1
-      (rows-kept paramRows (p .values) (id - 1) v (both .0) (and-eq-true-iff (inRows paramRows (p .values)) (inSpan p) .0 h .0), both .1))
-      h
-
--- ---- missing ids
-
--- no more are missing than are asked
-few-of : (p : Params) (l : List ℕ) → length (filter (isMissing p) l) ≤ length (filter (λ id. paramRow id .asked) l)
-unfolding filter
-few-of p [] = omega arith
-few-of p (id ∷ l) = one (paramRow id .asked) (marked p id) (filter (isMissing p) l) (filter (λ k. paramRow k .asked) l) (few-of p l)
-  where
-    one : (a m : Bool) (xs ys : List ℕ) → length xs ≤ length ys → length (cond (a && not m) (id ∷ xs) xs) ≤ length (cond a (id ∷ ys) ys)
-    one true true xs ys h = omega arith
-    one true false xs ys h = omega arith
-    one false m xs ys h = h
-
--- at most five ids are ever missing
-pub missing-few : (p : Params) → length (missingIds p) ≤ 5
-unfolding missingIds filter
-missing-few p = few-of p paramIds
-
--- the missing list has eight places
-pub missing-length : (p : Params) → length (missingOf p) ≡ 8
-unfolding missingOf
-missing-length p = length-sets (replicate 8 0) 0 (missingIds p)
+-- of as many as there are ids, stored at an id: what is found at an id
+pub stored-at : {A : Type 0} (l : List A) (k id : ℕ) (v d : A) → length l ≡ 12 → isId k ≡ true → isId id ≡ true
+    → getD (set l (k - 1) v) (id - 1) d ≡ cond (eqb k id) v (getD l (id - 1) d)
+stored-at l k id v d e i j =
+    split (eqb k id)
+    (λ s. rw (s, ← (eqb-true k id s)) (getD-set-same l (k - 1) v d (omega (arith, id-within k i))))
+    (λ s. rw s (getD-set-other l (k - 1) (id - 1) v d (λ z. eqb-false k id s (omega (arith, id-within k i, id-within id j)))))

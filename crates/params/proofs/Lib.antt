@@ -1,2 +1,4 @@
+pub mod Inside
 pub mod Laws
+pub mod Missing
 pub mod Narrow

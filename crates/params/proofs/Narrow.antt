@@ -14,7 +14,8 @@ use Rattle.rows.proofs.Bool.{and-left, and-right}
 use Rattle.params.specs.declared.ParamRow.{ParamRow}
 use Rattle.params.specs.declared.Params.{Params}
 use Rattle.params.specs.Rows.{paramRows, noParamRow, paramRow}
-use Rattle.params.specs.Rules.{valueAt, inRow, inSpan, inRows, soundParams}
+use Rattle.params.specs.Rules.{valueAt, inRow, inRows, soundParams}
+use Rattle.params.proofs.Inside.{in-rows}
 
 -- a number of four bytes, and a row with two such ends
 abbrev small : ℤ → Bool
@@ -64,6 +65,4 @@ in-own (r ∷ rs) (v ∷ vs) zero h = and-left (inRow r v) (inRows rs vs) h
 in-own (r ∷ rs) (v ∷ vs) (suc k) h = in-own rs vs k (and-right (inRow r v) (inRows rs vs) h)
 
 pub value-small : (p : Params) (id : ℕ) → soundParams p ≡ true → mag (valueAt p id) < 2 ^ 31
-unfolding soundParams
-value-small p id h =
-    row-small id (valueAt p id) (in-own paramRows (p .values) (id - 1) (and-left (inRows paramRows (p .values)) (inSpan p) h))
+value-small p id h = row-small id (valueAt p id) (in-own paramRows (p .values) (id - 1) (in-rows p h))

@@ -5,8 +5,8 @@ use mathlib.Core.Logic.{_⊎_, inl, inr}
 use mathlib.Core.Bool.{Bool, true, false, not, _&&_, cond}
 use lib.IntN.{ℤ, pos}
 use lib.Signed.{ltZ, leZ}
-use lib.Dec.{leb}
-use lib.ListN.{getD, set, replicate}
+use lib.Dec.{leb, eqb}
+use lib.ListN.{length, getD, set, replicate}
 use lib.Seq.{sets}
 use Rattle.params.specs.declared.ParamRow.{ParamRow}
 use Rattle.params.specs.declared.Params.{Params}
@@ -42,17 +42,50 @@ inRows [] (v ∷ vs) = false
 inRows (r ∷ rs) [] = false
 inRows (r ∷ rs) (v ∷ vs) = inRow r v && inRows rs vs
 
--- "each parameter in its row and parameter 1 below parameter 2"
+-- those of a list that pass a test, in the list's order
+unfoldable pub filter : (ℕ → Bool) → List ℕ → List ℕ
+filter test [] = []
+filter test (x ∷ xs) = cond (test x) (x ∷ filter test xs) (filter test xs)
+
+-- "asked .. not written since Initialise"
+abbrev pub isMissing : Params → ℕ → Bool
+isMissing p id = paramRow id .asked && not (marked p id)
+
+-- all such ids, rising
+unfoldable pub missingIds : Params → List ℕ
+missingIds p = filter (isMissing p) paramIds
+
+-- "eight ids: the asked parameters not written since Initialise, rising, then zeros"
+unfoldable pub missingOf : Params → List ℕ
+missingOf p = sets (replicate 8 0) 0 (missingIds p)
+
+-- two lists are one, place by place
+unfoldable pub sameList : List ℕ → List ℕ → Bool
+sameList [] [] = true
+sameList [] (y ∷ ys) = false
+sameList (x ∷ xs) [] = false
+sameList (x ∷ xs) (y ∷ ys) = eqb x y && sameList xs ys
+
+-- request No. 5: "the kept list is exactly the one that document 01 defines from the written marks"; there are twelve
+unfoldable pub listKept : Params → Bool
+listKept p = eqb (length (p .written)) 12 && sameList (p .missing) (missingOf p)
+
+-- "each parameter in its row and parameter 1 below parameter 2", and that list
 unfoldable pub soundParams : Params → Bool
-soundParams p = inRows paramRows (p .values) && inSpan p
+soundParams p = inRows paramRows (p .values) && (inSpan p && listKept p)
 
--- "parameters .. at their starts", "nothing marked written"
+-- "parameters .. at their starts", "nothing marked written": so all that are asked are missing
 unfoldable pub startParams : Params
-startParams = record { values = map (λ (r : ParamRow). r .start) paramRows; written = replicate 12 false }
+startParams =
+    record { values = map (λ (r : ParamRow). r .start) paramRows; written = replicate 12 false; missing = 1 ∷ 2 ∷ 3 ∷ 6 ∷ 7 ∷ 0 ∷ 0 ∷ 0 ∷ [] }
 
--- the state with a value stored and marked
+-- a list of eight without an id: those behind it move up
+unfoldable pub struck : ℕ → List ℕ → List ℕ
+struck id l = sets (replicate 8 0) 0 (filter (λ k. not (eqb k id)) l)
+
+-- the state with a value stored and marked, and its id struck out
 abbrev pub stored : Params → ℕ → ℤ → Params
-stored p id v = record { values = set (p .values) (id - 1) v; written = set (p .written) (id - 1) true }
+stored p id v = record { values = set (p .values) (id - 1) v; written = set (p .written) (id - 1) true; missing = struck id (p .missing) }
 
 -- a write is taken: an id, a value in its row, and not "a write that would leave 1 not below 2"
 unfoldable pub writeAllowed : Params → ℕ → ℤ → Bool
@@ -74,20 +107,3 @@ valueRead p id = cond (isId id) (inr (valueAt p id)) (inl outsideError)
 abbrev pub readingSaid : Reading → ℕ ⊎ ℤ
 readingSaid Unknown = inl outsideError
 readingSaid (Held v) = inr v
-
--- those of a list that pass a test, in the list's order
-unfoldable pub filter : (ℕ → Bool) → List ℕ → List ℕ
-filter test [] = []
-filter test (x ∷ xs) = cond (test x) (x ∷ filter test xs) (filter test xs)
-
--- "asked .. not written since Initialise"
-abbrev pub isMissing : Params → ℕ → Bool
-isMissing p id = paramRow id .asked && not (marked p id)
-
--- all such ids, rising
-unfoldable pub missingIds : Params → List ℕ
-missingIds p = filter (isMissing p) paramIds
-
--- "eight ids: the asked parameters not written since Initialise, rising, then zeros"
-unfoldable pub missingOf : Params → List ℕ
-missingOf p = sets (replicate 8 0) 0 (missingIds p)

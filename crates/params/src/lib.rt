@@ -1,10 +1,14 @@
 // The twelve parameters of the pod: their rows as one constant table, and the state by value.
+mod kept;
+
+use crate::kept::listed;
+use crate::kept::struck;
 ghost use mathlib.Core.Path.{_≡_};
 ghost use mathlib.Core.Bool.{_&&_};
 ghost use Prim.Native.Nat.{_<_};
 ghost use lib.ListN.{getD};
 ghost use Rattle.params.specs.Rows.{paramRows, noParamRow, paramRow};
-ghost use Rattle.params.specs.Rules.{isId, inRow, inSpan, startParams, writeOf, valueRead, readingSaid, missingOf, soundParams};
+ghost use Rattle.params.specs.Rules.{isId, inRow, inSpan, startParams, writeOf, valueRead, readingSaid, soundParams};
 
 pub struct ParamRow {
     pub least: i32,
@@ -13,10 +17,12 @@ pub struct ParamRow {
     pub asked: bool,
 }
 
-// The values, and whether each was written since Initialise; id 1 first.
+// The values, and whether each was written since Initialise; id 1 first. The ids that are asked and not written, as Status shows
+// them.
 pub struct Params {
     pub values: [i32; 12],
     pub written: [bool; 12],
+    pub missing: [u8; 8],
 }
 
 // The next state: the same one where the write was not taken.
@@ -142,7 +148,7 @@ pub fn in_bounds(id: u8, value: i32) -> bool
     }
 }
 
-// All parameters at their starts, nothing written.
+// All parameters at their starts, nothing written, each asked one missing.
 pub fn start() -> Params
     ensures { λ r. ⌜ r ≡ startParams ⌝ }
 {
@@ -156,6 +162,7 @@ pub fn start() -> Params
     Params {
         values,
         written: [false; 12],
+        missing: [1, 2, 3, 6, 7, 0, 0, 0],
     }
 }
 
@@ -169,6 +176,9 @@ pub fn write(p: Params, id: u8, value: i32) -> Wrote
             let mut q = p;
             q.values[i] = value;
             q.written[i] = true;
+            let list = p.missing;
+            let left = struck(list, id);
+            q.missing = left;
             if in_row(row_at(i), value) & in_span(q) {
                 Wrote {
                     taken: true,
@@ -202,25 +212,7 @@ pub fn value(p: Params, id: u8) -> Reading
     }
 }
 
-// The ids that are asked and not written, rising, then zeros.
-pub fn missing(p: Params) -> [u8; 8]
-    ensures { λ r. ⌜ r ≡ missingOf p ⌝ }
-{
-    let table = ROWS;
-    let mut out = [0u8; 8];
-    let mut n: usize = 0;
-    for i in 0..12usize {
-        let r = table[i];
-        let done = p.written[i];
-        if r.asked & !done {
-            out[n] = (i + 1) as u8;
-            n += 1;
-        }
-    }
-    out
-}
-
-// Whether each value is in its row, and parameter 1 below parameter 2.
+// Whether each value is in its row, parameter 1 below parameter 2, and the kept list the one that the marks decide.
 pub fn sound(p: Params) -> bool
     ensures { λ r. ⌜ r ≡ soundParams p ⌝ }
 {
@@ -231,5 +223,5 @@ pub fn sound(p: Params) -> bool
         let r = table[i];
         ok = ok & in_row(r, v);
     }
-    ok & in_span(p)
+    ok & (in_span(p) & listed(p))
 }

@@ -16,6 +16,7 @@ use Rattle.packets.specs.Commands.{commandRow, commandPlace}
 use Rattle.packets.specs.Answers.{errorAnswer, statusAnswer, valueAnswer, dataAnswer}
 use Rattle.params.specs.declared.Params.{Params}
 use Rattle.params.specs.Rows.{paramIds, paramRow}
+use Rattle.params.proofs.Inside.{kept-list}
 use Rattle.params.specs.Rules.{isId, valueAt, marked, filter, isMissing, missingIds, missingOf}
 use Rattle.rules.specs.declared.Pod.{Pod}
 use Rattle.rules.specs.State.{Lent, ringOf, remainingOf}
@@ -27,6 +28,8 @@ use Rattle.rules.specs.Replies.{waitingFrom, reportFrom, statusFrom, rea
 use Rattle.rules.specs.Demands.{ReceiveIsHistory, StatusIsHistory, ReadIsWritten}
 use Rattle.rules.proofs.Replied.{commandAnswer, command-told}
 use Rattle.rules.proofs.Holds.{awake-is, fields-are}
+use Rattle.rules.proofs.Inside.{pod-in}
+use Rattle.rules.proofs.Sound.{powered-sound, final-sound}
 use Rattle.rules.proofs.Written.{value-is, mark-is}
 use Rattle.rules.proofs.Blocks.{waitingIn, blocks-are-history}
 
@@ -84,7 +87,10 @@ counts-are s l cs = sym (counted s (final (powered l) cs)) ∙ ap length (blocks
 report-is : (l : Lent) (cs : List Call) → reportOf (final (powered l) cs .pod) ≡ reportFrom (events (powered l) cs)
 unfolding reportOf reportFrom
 report-is l cs =
-    let ids = missing-are (final (powered l) cs .pod .params) (λ id. fold (markBy id) false (events (powered l) cs)) (λ id k. mark-is id k l cs) in
+    let q = final (powered l) cs .pod .params in
+    let ids =
+    kept-list q (pod-in (final (powered l) cs .pod) (final-sound (powered l) cs (powered-sound l)) .params)
+    ∙ missing-are q (λ id. fold (markBy id) false (events (powered l) cs)) (λ id k. mark-is id k l cs) in
     λ i.
     record {
       mode = fields-are l cs i .mode;

@@ -25,7 +25,7 @@ use Rattle.packets.specs.Commands.{commandRow, commandPlace}
 use Rattle.packets.specs.Reading.{packetRead, crcRight}
 use Rattle.packets.specs.Answers.{withCrc, answerOf, errorAnswer, doneAnswer, statusAnswer, valueAnswer, dataAnswer}
 use Rattle.packets.proofs.Laws.{answer-right, done-length, status-length, value-length, data-length}
-use Rattle.params.proofs.Laws.{missing-length}
+use Rattle.params.proofs.Inside.{kept-length}
 use Rattle.tables.specs.Tables.{tablesSized}
 use Rattle.rules.specs.declared.Pod.{Pod}
 use Rattle.rules.specs.State.{Lent, storeIn, ringOf, freshPod}
@@ -101,7 +101,7 @@ module _ (l : Lent) (p : Pod) (inside : PodIn p) (sized : (s : Store) → storeS
   pub answer-long : (c : Command) → Clear (checksOf c p) → length (answerOf (commandRow c .code) 0x01 (shownBy c l p)) ≡ commandRow c .answer
   unfolding commandRow commandPlace checksOf doneBy meantBody reportOf doneAnswer statusAnswer valueAnswer
   answer-long (Initialise f) q = done-length 0x90
-  answer-long Status q = status-length 0x91 (reportOf p) (missing-length (p .params))
+  answer-long Status q = status-length 0x91 (reportOf p) (kept-length (p .params) (inside .params))
   answer-long (Update f) q = done-length 0x92
   answer-long (Write id v) q = done-length 0x93
   answer-long (Read id) q = value-length 0x94 id _

@@ -13,7 +13,7 @@ use Rattle.packets.specs.declared.Fields.{Fields}
 use Rattle.packets.specs.Commands.{fieldsBounded}
 use Rattle.params.specs.declared.Params.{Params}
 use Rattle.params.specs.Rules.{soundParams}
-use Rattle.params.proofs.Laws.{start-sound as params-start}
+use Rattle.params.proofs.Inside.{start-sound as params-start}
 use Rattle.tables.specs.declared.Transfer.{Transfer}
 use Rattle.tables.specs.declared.Transfer.the-variants.{Idle, Address, Load, Read as Reads}
 use Rattle.tables.specs.declared.Words.{Words}

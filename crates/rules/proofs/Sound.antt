@@ -3,6 +3,7 @@
 use Prim.Native.Nat.{ℕ, _-_}
 use native.Mathlib.Omega.{arith}
 use mathlib.Core.Path.{_≡_, refl, ap, _∙_}
+use mathlib.Core.List.{List, [], _∷_}
 use mathlib.Core.Bool.{Bool, true, false, _||_, cond}
 use mathlib.Core.Option.{Option, none as unmoved, some}
 use lib.Dec.{eqb}
@@ -20,7 +21,7 @@ use Rattle.packets.specs.Commands.{fieldsBounded}
 use Rattle.packets.proofs.Laws.{Within, bounded-within, within-bounded}
 use Rattle.params.specs.declared.Params.{Params}
 use Rattle.params.specs.Rules.{soundParams, writeAllowed, stored, writeOf}
-use Rattle.params.proofs.Laws.{write-sound}
+use Rattle.params.proofs.Inside.{write-sound}
 use Rattle.tables.specs.declared.Words.{Words}
 use Rattle.tables.specs.Port.{Desk}
 use Rattle.tables.specs.Bounds.{soundWords}
@@ -39,7 +40,7 @@ use Rattle.rules.specs.Obey.{shut, checksOf, doneBy, initialisedPod, mat
 use Rattle.rules.specs.Refusals.{Giving}
 use Rattle.rules.specs.Families.{WordCall, wordOf, PipeCall, byte, timeout, packetOut, taken, pipeOf}
 use Rattle.rules.specs.Calls.{reachOf, reached, answered, packetHeard, spokenBytes, replyBytes}
-use Rattle.rules.specs.World.{World, world, Call, power, Stepped, next, powered}
+use Rattle.rules.specs.World.{World, world, Call, power, Stepped, next, final, powered}
 use Rattle.rules.specs.History.{Touch, loneAs}
 use Rattle.rules.specs.Demands.{KeptSound}
 use Rattle.rules.proofs.Lone.{movedBy, touchOf, lone-is}
@@ -153,6 +154,12 @@ sound-next w c h = in-pod (step-in (happens w c) (pod-in (w .pod) h))
 -- from power on the pod is within its bounds, whatever is lent
 pub powered-sound : (l : Lent) → soundPod (powered l .pod) ≡ true
 powered-sound l = sound-next (world freshPod l) power (in-pod fresh-in)
+
+-- through any calls
+pub final-sound : (w : World) (cs : List Call) → soundPod (w .pod) ≡ true → soundPod (final w cs .pod) ≡ true
+unfolding final
+final-sound w [] h = h
+final-sound w (c ∷ cs) h = final-sound (next w c) cs (sound-next w c h)
 
 pub kept-sound : KeptSound
 kept-sound = (powered-sound, sound-next)

@@ -8,13 +8,11 @@ use mathlib.Core.List.{List}
 use lib.Dec.{eqb}
 use lib.IntN.{ℤ, pos}
 use lib.ListN.{length, getD, set, length-set, getD-replicate}
-use lib.Seq.{getD-set-same, getD-set-other}
-use borrow.Author.Tests.{eqb-true, eqb-false}
-use Rattle.rows.proofs.Bool.{split, and-left}
+use Rattle.rows.proofs.Bool.{and-left}
 use Rattle.params.specs.declared.Params.{Params}
 use Rattle.params.specs.Rows.{paramRow}
 use Rattle.params.specs.Rules.{isId, valueAt, marked, inRow, inSpan, startParams, stored, writeAllowed}
-use Rattle.params.proofs.Laws.{id-within, id-held, start-held, start-marks}
+use Rattle.params.proofs.Laws.{id-within, id-held, start-held, start-marks, stored-at}
 use Rattle.rules.specs.State.{Lent, freshPod}
 use Rattle.rules.specs.Obey.{initialisedPod, doneBy}
 use Rattle.rules.specs.World.{World, Call, final, powered}
@@ -24,14 +22,6 @@ use Rattle.rules.proofs.Histories.{Keeps, history, powered-fresh}
 use Rattle.rules.proofs.Untouched.{acknowledged-untouched}
 
 -- ---- one write
-
--- of as many as there are ids, stored at an id: what is found at an id
-stored-at : {A : Type 0} (l : List A) (k id : ℕ) (v d : A) → length l ≡ 12 → isId k ≡ true → isId id ≡ true
-    → getD (set l (k - 1) v) (id - 1) d ≡ cond (eqb k id) v (getD l (id - 1) d)
-stored-at l k id v d e i j =
-    split (eqb k id)
-    (λ s. rw (s, ← (eqb-true k id s)) (getD-set-same l (k - 1) v d (omega (arith, id-within k i))))
-    (λ s. rw s (getD-set-other l (k - 1) (id - 1) v d (λ z. eqb-false k id s (omega (arith, id-within k i, id-within id j)))))
 
 -- only ids are written
 allowed-id : (q : Params) (id : ℕ) (v : ℤ) → writeAllowed q id v ≡ true → isId id ≡ true

@@ -14,7 +14,7 @@ use Rattle.packets.specs.declared.Command.{Command}
 use Rattle.packets.specs.declared.Command.the-variants as command
 use Rattle.packets.specs.declared.Report.{Report}
 use Rattle.packets.specs.Commands.{fieldsBounded, commandRow}
-use Rattle.params.specs.Rules.{isId, valueAt, writeAllowed, stored, missingOf}
+use Rattle.params.specs.Rules.{isId, valueAt, writeAllowed, stored}
 use Rattle.tables.specs.Tables.{starts}
 use Rattle.tables.specs.Port.{closeOf}
 use Rattle.rules.specs.declared.Exchange.{Exchange}
@@ -134,7 +134,7 @@ acknowledgedOf first one p = shut (cond (matches first one (p .exchange)) (settl
 
 -- ---- what a status answer shows
 
--- "mode, flags 2, priority blocks waiting 2, ordinary blocks waiting 4, .. eight ids: the asked parameters not written since Initialise"
+-- "mode, flags 2, priority blocks waiting 2, ordinary blocks waiting 4, .. eight ids": request No. 5, the eight places that are kept
 unfoldable pub reportOf : Pod → Report
 reportOf p =
-    record { mode = p .fields .mode; flags = p .fields .flags; priority = p .priority .waiting; ordinary = p .ordinary .waiting; ids = missingOf (p .params) }
+    record { mode = p .fields .mode; flags = p .fields .flags; priority = p .priority .waiting; ordinary = p .ordinary .waiting; ids = p .params .missing }

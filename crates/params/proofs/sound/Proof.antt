@@ -44,11 +44,11 @@ sound-spec =
     let vs = c .before .before .before .before .before .args .t1 .values in
     let back : toZ w32 (ofZ w32 (getD vs (at .i) (pos 0))) ≡ getD vs (at .i) (pos 0) = search needs in
     let turn = next (at .ok) vs (at .i) (search needs) (search needs) in
-    (search needs, search needs, cc)) (λ c κs. search needs)
+    (search needs, search needs, cc)) (λ c κs. search needs) (λ c κs. search needs)
     (λ c.
-    let at = c .before .before .loop in
-    let vs = c .before .before .before .args .t1 .values in
+    let at = c .before .before .before .loop in
+    let vs = c .before .before .before .before .args .t1 .values in
     let last : at .i ≡ 12 = omega arith in
-    let twelve : length vs ≤ 12 = omega (arith, length-map vs (λ v. v), c .before .before .before .good .0 .1 .1 .0 .1 .0 .1) in
+    let twelve : length vs ≤ 12 = omega (arith, length-map vs (λ v. v), c .before .before .before .before .good .0 .1 .1 .0 .1 .0 .1) in
     let all = end (at .ok) vs twelve in
     cc))

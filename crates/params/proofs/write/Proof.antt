@@ -12,10 +12,10 @@ use Rattle.params.proofs.write.Tie as tie
 
 -- the code's test is the rule's
 tested : (c : tie.After-in-span) →
-    let a = c .before .before .before .before .before .args in
+    let a = c .before .before .before .before .before .before .before .args in
     writeOf (a .p) (a .id) (a .value) .taken ≡ c .before .in-row .result && c .in-span .result
 tested c =
-    let a = c .before .before .before .before .before .args in
+    let a = c .before .before .before .before .before .before .before .args in
     let back : toZ w32 (ofZ w32 (a .value)) ≡ a .value = search needs in
     let rule = id-taken (a .p) (a .id) (a .value) (within-id (a .id) (omega arith) (omega arith)) in
     cc
@@ -23,10 +23,10 @@ tested c =
 pub write-spec : {M : Type 1} → statement M
 write-spec =
     tie.close
-    (tie.spec (λ c. search needs) (λ c. search needs) (λ c. search needs) (λ c. search needs) (λ c κs. search needs) (λ c κs. search needs)
+    (tie.spec (λ c. search needs) (λ c. search needs) (λ c. search needs) (λ c. search needs) (λ c κs. search needs) (λ c κs. search needs) (λ c κs. search needs)
     (λ c κs. search needs)
     (λ c.
-    let a = c .before .before .before .before .before .before .args in
+    let a = c .before .before .before .before .before .before .before .before .args in
     let back : toZ w32 (ofZ w32 (a .value)) ≡ a .value = search needs in
     let rule = taken-stored (a .p) (a .id) (a .value) (tested (c .before) ∙ c .if3 .taken) in
     cc) (λ c. rw (refused-same _ _ _ (tested (c .before) ∙ c .if3 .left))) (λ c. rw (no-id-refused _ _ _ (under-no-id _ (c .if1 .taken))))

@@ -1,4 +1,5 @@
 -- `commands::obeying::report` meets its contract: what waits fits. Assumes nothing.
+use mathlib.Core.Path.{refl}
 use native.Mathlib.Omega.{arith}
 use Rattle.blocks.proofs.Places.{bounds}
 use Rattle.rules.specs.Obey.{reportOf}
@@ -15,6 +16,6 @@ cast-t5 c =
 pub report-spec : {M : Type 1} → statement M
 unfolding reportOf
 report-spec =
-    tie.close (tie.spec (λ c κs. search needs)
+    tie.close (tie.spec
     (λ c. let s = c .before .before .before in omega (arith, bounds 16 (s .args .pod .priority) (pod-in (s .args .pod) (s .pre) .priority) .1))
-    cast-t5 (λ c. rw (c .before .before .missing .ensures)))
+    cast-t5 (λ c. refl))
