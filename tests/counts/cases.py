@@ -57,7 +57,8 @@ PACKETS = (
     Case("Initialise", "P", INITIALISE, 128),
     Case("Status", "P", STATUS, 128),
     Case("Update", "P", UPDATE, 128),
-    Case("Parameter write", "P", WRITE, 128),
+    Case("Parameter write, its id written before", "P", WRITE, 128),
+    Case("Parameter write, its id struck out", "P", WRITE, 128, few=0, many=1),
     Case("Parameter read", "P", READ, 128),
     Case("rejected: 260 bytes, CRC wrong", "P", REJECTED, 128),
 )
