@@ -148,6 +148,23 @@ pub fn in_bounds(id: u8, value: i32) -> bool
     }
 }
 
+// The ids that are asked, rising, then zeros.
+fn asked_ids() -> [u8; 8]
+    ensures { λ r. ⌜ r ≡ startParams .missing ⌝ }
+{
+    let table = ROWS;
+    let mut out = [0u8; 8];
+    let mut n: usize = 0;
+    for i in 0..12usize {
+        let r = table[i];
+        if r.asked {
+            out[n] = (i + 1) as u8;
+            n += 1;
+        }
+    }
+    out
+}
+
 // All parameters at their starts, nothing written, each asked one missing.
 pub fn start() -> Params
     ensures { λ r. ⌜ r ≡ startParams ⌝ }
@@ -159,10 +176,11 @@ pub fn start() -> Params
         let s = r.start;
         values[i] = s;
     }
+    let missing = asked_ids();
     Params {
         values,
         written: [false; 12],
-        missing: [1, 2, 3, 6, 7, 0, 0, 0],
+        missing,
     }
 }
 

@@ -84,7 +84,7 @@ missing-are q u h =
 counts-are : (s : Store) (l : Lent) (cs : List Call) → ringOf s (final (powered l) cs .pod) .waiting ≡ length (waitingFrom s (events (powered l) cs))
 counts-are s l cs = sym (counted s (final (powered l) cs)) ∙ ap length (blocks-are-history s l cs)
 
-report-is : (l : Lent) (cs : List Call) → reportOf (final (powered l) cs .pod) ≡ reportFrom (events (powered l) cs)
+pub report-is : (l : Lent) (cs : List Call) → reportOf (final (powered l) cs .pod) ≡ reportFrom (events (powered l) cs)
 unfolding reportOf reportFrom
 report-is l cs =
     let q = final (powered l) cs .pod .params in

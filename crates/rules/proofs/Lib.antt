@@ -29,6 +29,7 @@ pub mod Numbered
 pub mod Checked
 pub mod Judged
 pub mod Kept
+pub mod Listed
 pub mod Twins
 pub mod Said
 pub mod Between

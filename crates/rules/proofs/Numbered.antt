@@ -5,7 +5,7 @@ use mathlib.Core.Path.{_≡_, refl}
 use mathlib.Core.Bool.{Bool, true, false, not, _&&_, _||_}
 use mathlib.Core.List.{List, [], _∷_}
 use lib.Dec.{leb}
-use Rattle.rows.specs.Rows.{Row, row, First, here, after}
+use Rattle.rows.specs.Rows.{Row, row, First, here, after, Clear, none, past}
 use Rattle.rows.proofs.Bool.{split, never}
 use Rattle.pipe.specs.Output.{busyOf}
 use Rattle.frames.specs.Samples.{boundedOf}
@@ -59,6 +59,15 @@ table w (lone (pipe (packetOut b))) = idle refl (idle refl (same (idle refl (idl
 table w (lone (pipe taken)) = idle refl (idle refl (same (idle refl (idle refl (idle refl (same (idle refl (idle refl done))))))))
 table w (samples k xs) =
     rw (not-both (boundedOf xs) (leb k 31)) (idle refl (idle refl (same (same (same (idle refl (idle refl (idle refl (idle refl done)))))))))
+
+-- so where none of a call's rows holds, none of the table's does
+clear-in : {rs ts : List Row} → Among rs ts → Clear rs → Clear ts
+clear-in done none = none
+clear-in (same a) (past h k) = past h (clear-in a k)
+clear-in (idle e a) k = past e (clear-in a k)
+
+pub all-clear : (w : World) (c : Call) → Clear (rowsOf w c) → Clear (rowsInOrder w c)
+all-clear w c k = clear-in (table w c) k
 
 pub rows-exactly : RowsExactly
 rows-exactly w c n =

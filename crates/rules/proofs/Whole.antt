@@ -21,6 +21,7 @@ use Rattle.rules.proofs.Handed.{handed-is-history}
 use Rattle.rules.proofs.PipeOnly.{pipe-only}
 use Rattle.rules.proofs.Frames.{frames-are-history}
 use Rattle.rules.proofs.Kept.{awake-is-history, fields-are-history, exchange-is-history, params-are-history, marks-are-history, drop-guarded, fresh-is}
+use Rattle.rules.proofs.Listed.{list-judged, list-is-history, power-mends}
 use Rattle.rules.proofs.NoTrace.{no-trace, as-from-power, no-trace-past}
 use Rattle.rules.proofs.Asleep.{answer-alike, asleep-from-power, asleep-from-shutdown}
 
@@ -67,6 +68,9 @@ whole =
       marks-are-history = marks-are-history;
       drop-guarded = drop-guarded;
       fresh-is = fresh-is;
+      list-is-history = list-is-history;
+      list-judged = list-judged;
+      power-mends = power-mends;
       no-trace = no-trace;
       as-from-power = as-from-power;
       no-trace-past = no-trace-past;

@@ -18,4 +18,5 @@ pub mod Port
 pub mod Pairs
 pub mod Demands
 pub mod Kept
+pub mod Listed
 pub mod Whole

@@ -38,7 +38,7 @@ start-spec =
     let r = getD paramRows (at .i) noParamRow in
     let back : toZ w32 (ofZ w32 (r .start)) ≡ r .start = search needs in
     let turn = rw (next (at .i) (search needs)) at (at .inv .2) in
-    (search needs, search needs, rw add-one (cc)))
+    (search needs, search needs, rw add-one (cc))) (λ c κs. search needs)
     (λ c.
-    let end : c .before .loop .i ≡ 12 = omega arith in
-    rw (rw end at (c .before .loop .inv .2))))
+    let end : c .before .before .loop .i ≡ 12 = omega arith in
+    rw (rw end at (c .before .before .loop .inv .2), c .asked-ids .ensures)))
