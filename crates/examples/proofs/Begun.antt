@@ -8,7 +8,7 @@ use Rattle.packets.specs.Commands.{fieldsOf, fieldsIn, fieldsBounded, findIn, l
 use Rattle.numbers.specs.Layout.{laidOut, numbersAt}
 use Rattle.numbers.specs.Numbers.{highFirst, numberOf, numberAt}
 use Rattle.packets.specs.Reading.{crcRight, acknowledges, packetRead}
-use Rattle.params.specs.Rules.{inRows, soundParams, startParams}
+use Rattle.params.specs.Rules.{inRows, filter, missingIds, missingOf, sameList, listKept, soundParams, startParams}
 use Rattle.blocks.specs.Stores.{storeSized, soundRing}
 use Rattle.tables.specs.Bounds.{soundPlaces, soundTransfer, soundWords}
 use Rattle.tables.specs.Port.{startWords}
@@ -27,5 +27,5 @@ abbrev pub awakened : World
 awakened = world (initialisedPod freshFields) blank
 
 pub begun : justInitialised ≡ awakened
-unfolding ran poly leaving bitIn bits bitsIn crcFrom crcOf withCrc answerOf fieldBytes bodyOf commandBytes laidOut numbersAt fieldsOf fieldsIn fieldsBounded findIn listedIn codeRow isCode commandPlace commandRow highFirst numberOf numberAt crcRight acknowledges packetRead inRows soundParams startParams storeSized soundRing soundPlaces soundTransfer soundWords startWords listed startTable tablesSized emptyInput freshInput soundInput freshOutput soundOutput freshPipe soundPipe powerCall packetHeard meantBody replyBytes spokenBytes answered packetCall checksOf initialisedPod doneBy obeyOf justInitialised freshFields freshPod restful soundPod step
+unfolding ran poly leaving bitIn bits bitsIn crcFrom crcOf withCrc answerOf fieldBytes bodyOf commandBytes laidOut numbersAt fieldsOf fieldsIn fieldsBounded findIn listedIn codeRow isCode commandPlace commandRow highFirst numberOf numberAt crcRight acknowledges packetRead inRows filter missingIds missingOf sameList listKept soundParams startParams storeSized soundRing soundPlaces soundTransfer soundWords startWords listed startTable tablesSized emptyInput freshInput soundInput freshOutput soundOutput freshPipe soundPipe powerCall packetHeard meantBody replyBytes spokenBytes answered packetCall checksOf initialisedPod doneBy obeyOf justInitialised freshFields freshPod restful soundPod step
 begun = refl

@@ -4,7 +4,7 @@ use mathlib.Core.Path.{refl}
 use Rattle.rows.specs.Rows.{ran}
 use Rattle.packets.specs.Commands.{fieldsBounded}
 use Rattle.packets.specs.Reading.{packetRead}
-use Rattle.params.specs.Rules.{isId, inRows, soundParams, startParams, writeAllowed}
+use Rattle.params.specs.Rules.{isId, inRows, filter, missingIds, missingOf, sameList, listKept, soundParams, startParams, struck, writeAllowed}
 use Rattle.blocks.specs.Stores.{storeSized, soundRing}
 use Rattle.tables.specs.Bounds.{soundPlaces, soundTransfer, soundWords}
 use Rattle.tables.specs.Port.{startWords}
@@ -24,11 +24,11 @@ unfolding startParams
 all-starts = refl
 
 pub all-values : AsExpected valuesBounded
-unfolding ran isId inRows soundParams startParams writeAllowed soundRing soundPlaces soundTransfer soundWords startWords tablesSized emptyInput freshInput soundInput freshOutput soundOutput freshPipe soundPipe powerCall loneCall freshFields freshPod restful soundPod fieldsBounded step
+unfolding ran isId inRows filter missingIds missingOf sameList listKept soundParams startParams struck writeAllowed soundRing soundPlaces soundTransfer soundWords startWords tablesSized emptyInput freshInput soundInput freshOutput soundOutput freshPipe soundPipe powerCall loneCall freshFields freshPod restful soundPod fieldsBounded step
 all-values = refl
 
 pub all-rest : AsExpected bounds
-unfolding ran inRows soundParams startParams storeSized soundRing soundPlaces soundTransfer soundWords startWords listed startTable tablesSized emptyInput freshInput soundInput freshOutput soundOutput freshPipe soundPipe boundedOf packetRead packetHeard spokenBytes answered powerCall packetCall loneCall samplesCall freshFields freshPod restful soundPod fieldsBounded step
+unfolding ran inRows filter missingIds missingOf sameList listKept soundParams startParams storeSized soundRing soundPlaces soundTransfer soundWords startWords listed startTable tablesSized emptyInput freshInput soundInput freshOutput soundOutput freshPipe soundPipe boundedOf packetRead packetHeard spokenBytes answered powerCall packetCall loneCall samplesCall freshFields freshPod restful soundPod fieldsBounded step
 all-rest = refl
 
 pub all-bounds : Bounds

@@ -4,7 +4,7 @@ use mathlib.Core.Path.{refl, sym, subst}
 use Rattle.rows.specs.Rows.{ran}
 use Rattle.packets.specs.Commands.{fieldsBounded}
 use Rattle.packets.specs.Reading.{packetRead}
-use Rattle.params.specs.Rules.{inRows, soundParams, startParams}
+use Rattle.params.specs.Rules.{inRows, filter, missingIds, missingOf, sameList, listKept, soundParams, startParams}
 use Rattle.blocks.specs.Stores.{storeSized, soundRing}
 use Rattle.tables.specs.Bounds.{soundPlaces, soundTransfer, soundWords}
 use Rattle.tables.specs.Port.{startWords}
@@ -23,11 +23,11 @@ use Rattle.examples.specs.Shown.{AsExpected}
 use Rattle.examples.specs.Edges.{edges, outwardEdges, Edges}
 
 told-edges : AsExpected (edges awakened)
-unfolding ran inRows soundParams startParams storeSized soundRing soundPlaces soundTransfer soundWords startWords listed startTable tablesSized emptyInput freshInput soundInput freshOutput soundOutput freshPipe soundPipe boundedOf packetRead packetHeard spokenBytes answered powerCall packetCall putCall wordCall loneCall samplesCall wordLent initialisedPod freshFields freshPod restful soundPod fieldsBounded step
+unfolding ran inRows filter missingIds missingOf sameList listKept soundParams startParams storeSized soundRing soundPlaces soundTransfer soundWords startWords listed startTable tablesSized emptyInput freshInput soundInput freshOutput soundOutput freshPipe soundPipe boundedOf packetRead packetHeard spokenBytes answered powerCall packetCall putCall wordCall loneCall samplesCall wordLent initialisedPod freshFields freshPod restful soundPod fieldsBounded step
 told-edges = refl
 
 outward-edges : AsExpected (outwardEdges awakened)
-unfolding ran inRows soundParams startParams storeSized soundRing soundPlaces soundTransfer soundWords startWords listed startTable tablesSized emptyInput freshInput soundInput freshOutput soundOutput busyOf freshPipe soundPipe boundedOf packetRead packetHeard spokenBytes answered powerCall packetCall putCall wordCall loneCall samplesCall wordLent initialisedPod freshFields freshPod restful soundPod fieldsBounded step
+unfolding ran inRows filter missingIds missingOf sameList listKept soundParams startParams storeSized soundRing soundPlaces soundTransfer soundWords startWords listed startTable tablesSized emptyInput freshInput soundInput freshOutput soundOutput busyOf freshPipe soundPipe boundedOf packetRead packetHeard spokenBytes answered powerCall packetCall putCall wordCall loneCall samplesCall wordLent initialisedPod freshFields freshPod restful soundPod fieldsBounded step
 outward-edges = refl
 
 pub all-edges : Edges

@@ -23,7 +23,7 @@ use Rattle.packets.specs.Commands.{fieldsOf, fieldsIn, fieldsBounded, findIn, l
 use Rattle.numbers.specs.Layout.{laidOut, numbersAt}
 use Rattle.numbers.specs.Numbers.{highFirst, numberOf, numberAt, signedOf, unsignedOf}
 use Rattle.packets.specs.Reading.{crcRight, acknowledges, packetRead}
-use Rattle.params.specs.Rules.{isId, inRows, soundParams, startParams, writeAllowed, filter, missingIds, missingOf}
+use Rattle.params.specs.Rules.{isId, inRows, filter, missingIds, missingOf, sameList, listKept, soundParams, startParams, struck, writeAllowed}
 use Rattle.blocks.specs.Stores.{storeSized, soundRing, placeBehind, blockAt, blocksFrom, blocksIn, oldestOf, putRing, putStore, droppedRing}
 use Rattle.tables.specs.Bounds.{soundPlaces, soundTransfer, soundWords}
 use Rattle.orders.specs.Command.{oddOnes, partsOf, orderOf, orderHeard}
@@ -145,7 +145,7 @@ pub record NotEmpty : Type 0 where
   pub numbers : Edges
 
 pub not-empty : NotEmpty
-unfolding ones ran poly leaving bitIn bits bitsIn crcFrom crcOf withCrc answerOf errorAnswer statusBody valueBody fieldBytes bodyOf commandBytes laidOut numbersAt fieldsOf fieldsIn fieldsBounded findIn listedIn codeRow isCode commandPlace commandRow highFirst numberOf numberAt signedOf unsignedOf crcRight acknowledges packetRead isId inRows soundParams startParams writeAllowed filter missingIds missingOf storeSized soundRing placeBehind blockAt blocksFrom blocksIn oldestOf putRing putStore droppedRing soundPlaces soundTransfer soundWords oddOnes partsOf orderOf orderHeard startWords closeOf readOpenedAt readOpened restarted orderObeyed tablesAfter commandOf wrongWay loadRight storedIn loadJudged loadOf wordTaken dataInOf readWord readNext wordGiven dataOutOf statusOf listed startTable tablesSized heldIn sentPacket sentBytes emptyInput freshInput gathers pipeByte countUp pipeTimeout soundInput gatheringOf heldOut freshOutput outputPacket outputTaken outputTimeout soundOutput busyOf freshPipe soundPipe placed frame lines03 lines47 framesOf sampleAt sumOf averageOf averagesOf boundedOf powerCall packetHeard meantBody replyBytes spokenBytes answered packetCall putCall wordCall loneCall samplesCall wordOf wordLent pipeOf loneOf succeeded errored eventOf events checksOf initialisedPod doneBy obeyOf matches dropFrom settled acknowledgedOf reportOf justInitialised freshFields freshPod restful soundPod cuts leftOpen writtenIn readsIn step final tells
+unfolding ones ran poly leaving bitIn bits bitsIn crcFrom crcOf withCrc answerOf errorAnswer statusBody valueBody fieldBytes bodyOf commandBytes laidOut numbersAt fieldsOf fieldsIn fieldsBounded findIn listedIn codeRow isCode commandPlace commandRow highFirst numberOf numberAt signedOf unsignedOf crcRight acknowledges packetRead isId inRows filter missingIds missingOf sameList listKept soundParams startParams struck writeAllowed storeSized soundRing placeBehind blockAt blocksFrom blocksIn oldestOf putRing putStore droppedRing soundPlaces soundTransfer soundWords oddOnes partsOf orderOf orderHeard startWords closeOf readOpenedAt readOpened restarted orderObeyed tablesAfter commandOf wrongWay loadRight storedIn loadJudged loadOf wordTaken dataInOf readWord readNext wordGiven dataOutOf statusOf listed startTable tablesSized heldIn sentPacket sentBytes emptyInput freshInput gathers pipeByte countUp pipeTimeout soundInput gatheringOf heldOut freshOutput outputPacket outputTaken outputTimeout soundOutput busyOf freshPipe soundPipe placed frame lines03 lines47 framesOf sampleAt sumOf averageOf averagesOf boundedOf powerCall packetHeard meantBody replyBytes spokenBytes answered packetCall putCall wordCall loneCall samplesCall wordOf wordLent pipeOf loneOf succeeded errored eventOf events checksOf initialisedPod doneBy obeyOf matches dropFrom settled acknowledgedOf reportOf justInitialised freshFields freshPod restful soundPod cuts leftOpen writtenIn readsIn step final tells
 not-empty =
     let busy-seen : seenIn busy ≡ seenBoth true = refl in
     let other-seen : seenIn other ≡ seenBoth true = refl in

@@ -8,7 +8,7 @@ use Rattle.packets.specs.Commands.{fieldsOf, fieldsIn, fieldsBounded, findIn, l
 use Rattle.numbers.specs.Layout.{numbersAt}
 use Rattle.numbers.specs.Numbers.{highFirst, numberOf, numberAt}
 use Rattle.packets.specs.Reading.{crcRight, acknowledges, packetRead}
-use Rattle.params.specs.Rules.{isId, inRows, soundParams, startParams, filter, missingIds, missingOf}
+use Rattle.params.specs.Rules.{isId, inRows, filter, missingIds, missingOf, sameList, listKept, soundParams, startParams, struck}
 use Rattle.blocks.specs.Stores.{storeSized, soundRing, placeBehind, putRing, putStore}
 use Rattle.tables.specs.Bounds.{soundPlaces, soundTransfer, soundWords}
 use Rattle.tables.specs.Port.{startWords, closeOf, statusOf}
@@ -31,35 +31,35 @@ use Rattle.port_examples.specs.PipeAlone.{PipeAlone, DeadlineAlone}
 use Rattle.port_examples.specs.PipeOut.{asleepFirst, handedOver, restDropped, countedDrops, bothHalves, outlasting, PipeOut}
 
 refused-asleep : Talks (world freshPod dusty) asleepFirst
-unfolding ran poly leaving bitIn bits bitsIn crcFrom crcOf withCrc answerOf fieldsOf fieldsIn fieldsBounded findIn listedIn codeRow isCode commandPlace commandRow numbersAt highFirst numberOf numberAt crcRight acknowledges packetRead isId inRows soundParams startParams storeSized soundRing soundPlaces soundTransfer soundWords startWords closeOf listed startTable tablesSized heldIn sentPacket sentBytes emptyInput freshInput gathers pipeByte countUp pipeTimeout soundInput gatheringOf heldOut freshOutput outputPacket outputTaken outputTimeout soundOutput busyOf freshPipe soundPipe placed frame lines03 lines47 framesOf sampleAt sumOf averageOf averagesOf boundedOf powerCall packetHeard meantBody replyBytes spokenBytes answered packetCall loneCall samplesCall pipeOf loneOf checksOf initialisedPod doneBy obeyOf freshFields freshPod restful soundPod step tells
+unfolding ran poly leaving bitIn bits bitsIn crcFrom crcOf withCrc answerOf fieldsOf fieldsIn fieldsBounded findIn listedIn codeRow isCode commandPlace commandRow numbersAt highFirst numberOf numberAt crcRight acknowledges packetRead isId inRows filter missingIds missingOf sameList listKept soundParams startParams storeSized soundRing soundPlaces soundTransfer soundWords startWords closeOf listed startTable tablesSized heldIn sentPacket sentBytes emptyInput freshInput gathers pipeByte countUp pipeTimeout soundInput gatheringOf heldOut freshOutput outputPacket outputTaken outputTimeout soundOutput busyOf freshPipe soundPipe placed frame lines03 lines47 framesOf sampleAt sumOf averageOf averagesOf boundedOf powerCall packetHeard meantBody replyBytes spokenBytes answered packetCall loneCall samplesCall pipeOf loneOf checksOf initialisedPod doneBy obeyOf freshFields freshPod restful soundPod step tells
 refused-asleep = refl
 
 byte-by-byte : Talks awakened handedOver
-unfolding ran fieldsBounded inRows soundParams startParams soundRing soundPlaces soundTransfer soundWords startWords heldIn sentPacket sentBytes emptyInput freshInput pipeTimeout soundInput gatheringOf countUp heldOut freshOutput outputPacket outputTaken outputTimeout soundOutput busyOf freshPipe soundPipe placed frame lines03 lines47 framesOf sampleAt sumOf averageOf averagesOf boundedOf loneCall samplesCall pipeOf loneOf initialisedPod freshFields freshPod restful soundPod step tells
+unfolding ran fieldsBounded inRows filter missingIds missingOf sameList listKept soundParams startParams soundRing soundPlaces soundTransfer soundWords startWords heldIn sentPacket sentBytes emptyInput freshInput pipeTimeout soundInput gatheringOf countUp heldOut freshOutput outputPacket outputTaken outputTimeout soundOutput busyOf freshPipe soundPipe placed frame lines03 lines47 framesOf sampleAt sumOf averageOf averagesOf boundedOf loneCall samplesCall pipeOf loneOf initialisedPod freshFields freshPod restful soundPod step tells
 byte-by-byte = refl
 
 rest-dropped : Talks awakened restDropped
-unfolding ran fieldsBounded inRows soundParams startParams soundRing soundPlaces soundTransfer soundWords startWords heldIn sentPacket sentBytes emptyInput freshInput pipeTimeout soundInput gatheringOf countUp heldOut freshOutput outputPacket outputTaken outputTimeout soundOutput busyOf freshPipe soundPipe placed frame lines03 lines47 framesOf sampleAt sumOf averageOf averagesOf boundedOf loneCall samplesCall pipeOf loneOf initialisedPod freshFields freshPod restful soundPod step tells
+unfolding ran fieldsBounded inRows filter missingIds missingOf sameList listKept soundParams startParams soundRing soundPlaces soundTransfer soundWords startWords heldIn sentPacket sentBytes emptyInput freshInput pipeTimeout soundInput gatheringOf countUp heldOut freshOutput outputPacket outputTaken outputTimeout soundOutput busyOf freshPipe soundPipe placed frame lines03 lines47 framesOf sampleAt sumOf averageOf averagesOf boundedOf loneCall samplesCall pipeOf loneOf initialisedPod freshFields freshPod restful soundPod step tells
 rest-dropped = refl
 
 to-fifteen : Talks awakened countedDrops
-unfolding ran fieldsBounded inRows soundParams startParams soundRing soundPlaces soundTransfer soundWords startWords heldIn sentPacket sentBytes emptyInput freshInput gathers pipeByte pipeTimeout soundInput gatheringOf countUp heldOut freshOutput outputPacket outputTaken outputTimeout soundOutput busyOf freshPipe soundPipe placed frame lines03 lines47 framesOf sampleAt sumOf averageOf averagesOf boundedOf loneCall samplesCall pipeOf loneOf initialisedPod freshFields freshPod restful soundPod step tells
+unfolding ran fieldsBounded inRows filter missingIds missingOf sameList listKept soundParams startParams soundRing soundPlaces soundTransfer soundWords startWords heldIn sentPacket sentBytes emptyInput freshInput gathers pipeByte pipeTimeout soundInput gatheringOf countUp heldOut freshOutput outputPacket outputTaken outputTimeout soundOutput busyOf freshPipe soundPipe placed frame lines03 lines47 framesOf sampleAt sumOf averageOf averagesOf boundedOf loneCall samplesCall pipeOf loneOf initialisedPod freshFields freshPod restful soundPod step tells
 to-fifteen = refl
 
 each-its-own : Talks awakened bothHalves
-unfolding ran fieldsBounded inRows soundParams startParams soundRing soundPlaces soundTransfer soundWords startWords heldIn sentPacket sentBytes emptyInput freshInput gathers pipeByte pipeTimeout soundInput gatheringOf countUp heldOut freshOutput outputPacket outputTaken outputTimeout soundOutput busyOf freshPipe soundPipe placed frame lines03 lines47 framesOf sampleAt sumOf averageOf averagesOf boundedOf loneCall samplesCall pipeOf loneOf initialisedPod freshFields freshPod restful soundPod step tells
+unfolding ran fieldsBounded inRows filter missingIds missingOf sameList listKept soundParams startParams soundRing soundPlaces soundTransfer soundWords startWords heldIn sentPacket sentBytes emptyInput freshInput gathers pipeByte pipeTimeout soundInput gatheringOf countUp heldOut freshOutput outputPacket outputTaken outputTimeout soundOutput busyOf freshPipe soundPipe placed frame lines03 lines47 framesOf sampleAt sumOf averageOf averagesOf boundedOf loneCall samplesCall pipeOf loneOf initialisedPod freshFields freshPod restful soundPod step tells
 each-its-own = refl
 
 kept-or-emptied : Talks awakened outlasting
-unfolding ran poly leaving bitIn bits bitsIn crcFrom crcOf withCrc answerOf fieldsOf fieldsIn fieldsBounded findIn listedIn codeRow isCode commandPlace commandRow numbersAt highFirst numberOf numberAt crcRight acknowledges packetRead isId inRows soundParams startParams storeSized soundRing soundPlaces soundTransfer soundWords startWords closeOf listed startTable tablesSized heldIn sentPacket sentBytes emptyInput freshInput gathers pipeByte countUp pipeTimeout soundInput gatheringOf heldOut freshOutput outputPacket outputTaken outputTimeout soundOutput busyOf freshPipe soundPipe placed frame lines03 lines47 framesOf sampleAt sumOf averageOf averagesOf boundedOf powerCall packetHeard meantBody replyBytes spokenBytes answered packetCall loneCall samplesCall pipeOf loneOf checksOf initialisedPod doneBy obeyOf freshFields freshPod restful soundPod step tells statusBody filter missingIds missingOf placeBehind putRing putStore statusOf putCall wordCall wordOf wordLent matches settled acknowledgedOf reportOf
+unfolding ran poly leaving bitIn bits bitsIn crcFrom crcOf withCrc answerOf fieldsOf fieldsIn fieldsBounded findIn listedIn codeRow isCode commandPlace commandRow numbersAt highFirst numberOf numberAt crcRight acknowledges packetRead isId inRows filter missingIds missingOf sameList listKept soundParams startParams storeSized soundRing soundPlaces soundTransfer soundWords startWords closeOf listed startTable tablesSized heldIn sentPacket sentBytes emptyInput freshInput gathers pipeByte countUp pipeTimeout soundInput gatheringOf heldOut freshOutput outputPacket outputTaken outputTimeout soundOutput busyOf freshPipe soundPipe placed frame lines03 lines47 framesOf sampleAt sumOf averageOf averagesOf boundedOf powerCall packetHeard meantBody replyBytes spokenBytes answered packetCall loneCall samplesCall pipeOf loneOf checksOf initialisedPod doneBy obeyOf freshFields freshPod restful soundPod step tells statusBody placeBehind putRing putStore statusOf putCall wordCall wordOf wordLent matches settled acknowledgedOf reportOf
 kept-or-emptied = refl
 
 nothing-else : PipeAlone
-unfolding ran fieldsBounded inRows soundParams startParams soundRing soundPlaces soundTransfer soundWords startWords heldIn sentPacket emptyInput freshInput gathers pipeByte pipeTimeout soundInput countUp heldOut freshOutput outputPacket outputTaken outputTimeout soundOutput busyOf freshPipe soundPipe loneCall pipeOf loneOf initialisedPod freshFields freshPod restful soundPod step
+unfolding ran fieldsBounded inRows filter missingIds missingOf sameList listKept soundParams startParams struck soundRing soundPlaces soundTransfer soundWords startWords heldIn sentPacket emptyInput freshInput gathers pipeByte pipeTimeout soundInput countUp heldOut freshOutput outputPacket outputTaken outputTimeout soundOutput busyOf freshPipe soundPipe loneCall pipeOf loneOf initialisedPod freshFields freshPod restful soundPod step
 nothing-else x l = refl
 
 only-closes : DeadlineAlone
-unfolding ran fieldsBounded inRows soundParams startParams soundRing soundPlaces soundTransfer soundWords startWords sentPacket soundInput soundOutput soundPipe loneCall loneOf initialisedPod freshPod restful soundPod step
+unfolding ran fieldsBounded inRows filter missingIds missingOf sameList listKept soundParams startParams struck soundRing soundPlaces soundTransfer soundWords startWords sentPacket soundInput soundOutput soundPipe loneCall loneOf initialisedPod freshPod restful soundPod step
 only-closes x l b = refl
 
 pub pipe-out : PipeOut

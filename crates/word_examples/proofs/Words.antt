@@ -11,7 +11,7 @@ use Rattle.packets.specs.Commands.{fieldsOf, fieldsIn, fieldsBounded, findIn, l
 use Rattle.numbers.specs.Layout.{laidOut, numbersAt}
 use Rattle.numbers.specs.Numbers.{highFirst, numberOf, numberAt}
 use Rattle.packets.specs.Reading.{crcRight, acknowledges, packetRead}
-use Rattle.params.specs.Rules.{inRows, soundParams, startParams}
+use Rattle.params.specs.Rules.{inRows, filter, missingIds, missingOf, sameList, listKept, soundParams, startParams}
 use Rattle.blocks.specs.Stores.{storeSized, soundRing}
 use Rattle.tables.specs.Bounds.{soundPlaces, soundTransfer, soundWords}
 use Rattle.orders.specs.Command.{oddOnes, partsOf, orderOf, orderHeard}
@@ -30,11 +30,11 @@ use Rattle.examples.proofs.Begun.{awakened, begun}
 use Rattle.word_examples.specs.Words.{words, closings, WordsComputed}
 
 told-words : (x y z : ℕ) → AsExpected (words awakened x y z)
-unfolding flatten ones ran poly leaving bitIn bits bitsIn crcFrom crcOf withCrc answerOf fieldBytes bodyOf commandBytes laidOut numbersAt fieldsOf fieldsIn fieldsBounded findIn listedIn codeRow isCode commandPlace commandRow highFirst numberOf numberAt crcRight acknowledges packetRead inRows soundParams startParams storeSized soundRing soundPlaces soundTransfer soundWords oddOnes partsOf orderOf orderHeard startWords closeOf readOpenedAt readOpened orderObeyed tablesAfter commandOf wrongWay loadRight storedIn loadJudged loadOf wordTaken dataInOf readWord readNext wordGiven dataOutOf statusOf listed startTable tablesSized emptyInput freshInput soundInput freshOutput soundOutput freshPipe soundPipe powerCall packetHeard meantBody replyBytes spokenBytes answered packetCall wordCall wordOf wordLent checksOf initialisedPod doneBy obeyOf freshFields freshPod restful soundPod step final tells
+unfolding flatten ones ran poly leaving bitIn bits bitsIn crcFrom crcOf withCrc answerOf fieldBytes bodyOf commandBytes laidOut numbersAt fieldsOf fieldsIn fieldsBounded findIn listedIn codeRow isCode commandPlace commandRow highFirst numberOf numberAt crcRight acknowledges packetRead inRows filter missingIds missingOf sameList listKept soundParams startParams storeSized soundRing soundPlaces soundTransfer soundWords oddOnes partsOf orderOf orderHeard startWords closeOf readOpenedAt readOpened orderObeyed tablesAfter commandOf wrongWay loadRight storedIn loadJudged loadOf wordTaken dataInOf readWord readNext wordGiven dataOutOf statusOf listed startTable tablesSized emptyInput freshInput soundInput freshOutput soundOutput freshPipe soundPipe powerCall packetHeard meantBody replyBytes spokenBytes answered packetCall wordCall wordOf wordLent checksOf initialisedPod doneBy obeyOf freshFields freshPod restful soundPod step final tells
 told-words x y z = refl
 
 told-closings : (x : ℕ) → AsExpected (closings awakened x)
-unfolding flatten ones ran poly leaving bitIn bits bitsIn crcFrom crcOf withCrc answerOf fieldBytes bodyOf commandBytes laidOut numbersAt fieldsOf fieldsIn fieldsBounded findIn listedIn codeRow isCode commandPlace commandRow highFirst numberOf numberAt crcRight acknowledges packetRead inRows soundParams startParams storeSized soundRing soundPlaces soundTransfer soundWords oddOnes partsOf orderOf orderHeard startWords closeOf readOpenedAt readOpened restarted orderObeyed tablesAfter commandOf wrongWay loadRight storedIn loadJudged loadOf wordTaken dataInOf readWord readNext wordGiven dataOutOf statusOf listed startTable tablesSized emptyInput freshInput soundInput freshOutput soundOutput freshPipe soundPipe powerCall packetHeard meantBody replyBytes spokenBytes answered packetCall wordCall wordOf wordLent checksOf initialisedPod doneBy obeyOf freshFields freshPod restful soundPod step final tells
+unfolding flatten ones ran poly leaving bitIn bits bitsIn crcFrom crcOf withCrc answerOf fieldBytes bodyOf commandBytes laidOut numbersAt fieldsOf fieldsIn fieldsBounded findIn listedIn codeRow isCode commandPlace commandRow highFirst numberOf numberAt crcRight acknowledges packetRead inRows filter missingIds missingOf sameList listKept soundParams startParams storeSized soundRing soundPlaces soundTransfer soundWords oddOnes partsOf orderOf orderHeard startWords closeOf readOpenedAt readOpened restarted orderObeyed tablesAfter commandOf wrongWay loadRight storedIn loadJudged loadOf wordTaken dataInOf readWord readNext wordGiven dataOutOf statusOf listed startTable tablesSized emptyInput freshInput soundInput freshOutput soundOutput freshPipe soundPipe powerCall packetHeard meantBody replyBytes spokenBytes answered packetCall wordCall wordOf wordLent checksOf initialisedPod doneBy obeyOf freshFields freshPod restful soundPod step final tells
 told-closings x = refl
 
 pub all-words : WordsComputed
