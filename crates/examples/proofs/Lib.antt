@@ -3,4 +3,5 @@ pub mod Shown
 pub mod Edges
 pub mod NotEmpty
 pub mod Bounds
+pub mod Missing
 pub mod Examples
