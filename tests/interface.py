@@ -87,8 +87,10 @@ def covered(desk, sheet):
     for row in sheet.take("Letter", "Line", "Call", "Prints"):
         if not any(told[:1] == plain(row[0]) and "!" not in told for _, told in shown):
             desk.fault("%s: there is no worked example of it" % row.where)
-    if not any(re.search(r"^V .* [1-8] [1-9]\d* [0-9A-F]{4}$", told) for _, told in shown):
+    if not any(re.search(r"^V .* [1-8] [1-9]\d* [0-9A-F]{4}( \d+){8}$", told) for _, told in shown):
         desk.fault("%s: there is no worked example of `V` with bytes in hand and an output timeout" % SHEET)
+    if not any(told.startswith("V ") and not told.endswith(" 1 2 3 6 7 0 0 0") for _, told in shown):
+        desk.fault("%s: there is no worked example of `V` with an id struck out of the list" % SHEET)
     for row in sheet.take("Form", "Byte 0", "Byte 1", "Byte 2", "Bytes 3 and 4"):
         if not any(line[5:7] == "%02X" % number(row[2]) and len(line) == 16 and told == "P -" for line, told in shown):
             desk.fault("%s: there is no worked example of it" % row.where)

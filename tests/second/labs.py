@@ -7,16 +7,20 @@ depends on these bytes, so a seed has the same lines alone.
 import random
 
 from model import Pod
-from moves import lab, packets
+from moves import lab, lists, packets
 from moves.edges import OUTSIDE
 from ports.bounds import broken
 from ports.lab import PARTS, lab_line
+from ports.refusal import LENT
 from sessions import Full
 
 WEIGHTS = {lab.sound: 6, lab.receipt: 2, lab.words_on: 3, lab.reads: 2, lab.pipe: 2, lab.edge: 2, lab.wild: 2,
-           lab.lent: 4, lab.call: 3, lab.out_of_range: 2, lab.malformed: 1, packets.initialise: 1}
-LENGTH = 60
-TURNS = 3       # each session takes so many of the pairs of a bound and a call, and of the names, in turn
+           lab.lent: 4, lab.call: 3, lab.out_of_range: 2, lab.malformed: 1, packets.initialise: 1,
+           lists.matched: 2, lists.mismatched: 1, lists.one_mark: 1}
+LENGTH = 70
+# each call with each thing that it is lent at its exact size, one less and one more
+SIZES = [(call, thing, over) for call, lent in LENT.items() for thing in lent if thing != "room" for over in (-1, 1)]
+TURNS = 3       # each session takes so many of the pairs of a bound and a call, of the names, and of SIZES, in turn
 
 
 class Lab:
@@ -28,6 +32,7 @@ class Lab:
         self.lines = []
         self.answers = []
         self.rich = self.rng.random() < 0.5
+        self.seed = seed
         self.turns = range(seed * TURNS, seed * TURNS + TURNS)
 
     def note(self, line):
@@ -68,6 +73,11 @@ class Lab:
                 self.mend()
                 calls, edge = divmod(turn, len(OUTSIDE))
                 lab.edge(self, OUTSIDE[edge], tuple(lab.CALLS)[calls % len(lab.CALLS)])
+                self.mend()
+                lab.wrong_size(self, *SIZES[turn % len(SIZES)])
+            self.mend()
+            # each place of the list with each of its bits, in turn
+            lists.one_bit(self, *divmod(self.seed % 64, 8))
             while True:
                 self.move()
         except Full:

@@ -32,6 +32,7 @@ class Pod(Rows, Packets, Commands, Parameters, Blocks, Words, Frames, Output):
         self.rows("power on")
         self.forget_transfer("power")
         self.count_forgotten("power")
+        self.count_refilled("power")
         self.power_on()
 
     def power_on(self):

@@ -1,4 +1,4 @@
-"""Document 01's shown examples, request No. 3 and the lines of `lab`, asserted of the model."""
+"""Document 01's shown examples, requests No. 3 and No. 5 and the lines of `lab`, asserted of the model."""
 
 from model import Pod, console_line, session_line
 from ports.lab import lab_line
@@ -184,18 +184,19 @@ def lab_shown():
                                     b"".join(bytes((i, 0)) for i in range(64)))))
     starts = "-2000 12000 950 1000 16 2000 0 0 0 0 0 0"
     pod = Pod()
-    talk(pod, "V => V 0 0 0 0 0 0 0 0 0 1000 %s %s 0 0 0 0 0 0 0 0 0 0 -1 0 0 0 0 0 0 FFFF FFFF %s 0 0 FFFF" % (
-        starts, " ".join("0" * 12), memory), lab_line)
+    talk(pod, "V => V 0 0 0 0 0 0 0 0 0 1000 %s %s 0 0 0 0 0 0 0 0 0 0 -1 0 0 0 0 0 0 FFFF FFFF %s 0 0 FFFF "
+         "1 2 3 6 7 0 0 0" % (starts, " ".join("0" * 12), memory), lab_line)
     sets = """initialised 1 mode 2 flags 3 seconds 4 milliseconds 5 limit0 6 remaining0 7 limit1 8 remaining1 9
         poll 10 param1 11 param2 12 param3 13 param4 14 param5 15 param6 16 param7 17 param8 18 param9 19 param10 20
         param11 21 param12 -22 written1 1 written4 1 written12 1 exchange 148 error 1 place5 26 place6 27 place7 28
-        address 29 oldest0 30 waiting0 31 oldest1 32 waiting1 33 gathered 8 timeouts 34 out 9 outtimeouts 35""".split()
+        address 29 oldest0 30 waiting0 31 oldest1 32 waiting1 33 gathered 8 timeouts 34 out 9 outtimeouts 35
+        missing0 255 missing1 36 missing2 37 missing3 38 missing4 39 missing5 40 missing6 41 missing7 42""".split()
     for name, number in zip(sets[::2], sets[1::2]):
         talk(pod, "X %s %s => X" % (name, number), lab_line)
     talk(pod, "X transfer 6 1 23 24 25 => X", lab_line)
     talk(pod, "V => V 1 2 3 4 5 6 7 8 9 10 11 12 13 14 15 16 17 18 19 20 21 -22 1 0 0 1 0 0 0 0 0 0 0 1 148 1 "
-         "6 1 23 24 25 26 27 28 29 30 31 32 33 8 34 %s FFFF %s 9 35 %s" % (by_bits(bytes(8)), memory, by_bits(bytes(8))),
-         lab_line)
+         "6 1 23 24 25 26 27 28 29 30 31 32 33 8 34 %s FFFF %s 9 35 %s 255 36 37 38 39 40 41 42" % (
+             by_bits(bytes(8)), memory, by_bits(bytes(8))), lab_line)
 
 
 def lab_refused():
@@ -229,7 +230,7 @@ def lab_memory():
     """The words of an open load, at most 64; the ring's first place behind its last; bytes that
     power keeps."""
     pod = Pod()
-    shown = lambda: lab_line(pod, b"V").decode().split()[-10:]
+    shown = lambda: lab_line(pod, b"V").decode().split()[-18:-8]
     talk(pod, "X initialised 1 => X\n X transfer 5 0 6 2 0 => X\n W 0103 => W", lab_line)
     assert shown()[1] == by_bits(b"\0\0\0\0\x01\x03")
     talk(pod, "X transfer 5 0 6 70 0 => X", lab_line)
@@ -247,10 +248,39 @@ def lab_memory():
     assert shown()[-3:] == ["0", "4", "FFFF"]
 
 
+def ids(pod):
+    """What Status and V show of the missing ids."""
+    told = pod.packet(sealed(b"\x91\x01"))[12:20]
+    assert lab_line(pod, b"V").decode().split()[-8:] == [str(id) for id in told]
+    return list(told)
+
+
+def kept_list():
+    """Request No. 5: the list through each call; any other list gets refusal 3 from every call but power on."""
+    pod = initialised()
+    assert ids(pod) == [1, 2, 3, 6, 7, 0, 0, 0]
+    for id, value, left in ((3, 500, [1, 2, 6, 7, 0, 0, 0, 0]), (3, 501, [1, 2, 6, 7, 0, 0, 0, 0]),
+                            (3, 1001, [1, 2, 6, 7, 0, 0, 0, 0]), (4, 40, [1, 2, 6, 7, 0, 0, 0, 0]),
+                            (1, 12000, [1, 2, 6, 7, 0, 0, 0, 0]), (1, 11999, [2, 6, 7, 0, 0, 0, 0, 0])):
+        pod.packet(sealed(b"\x93\x01" + bytes((id,)) + value.to_bytes(4, "big")))
+        assert ids(pod) == left, (id, value)
+    pod.packet(sealed(b"\x92\x01" + FIELDS))
+    assert ids(pod) == [2, 6, 7, 0, 0, 0, 0, 0]
+    pod.packet(sealed(b"\x9F\x01"))
+    assert pod.missing == [2, 6, 7, 0, 0, 0, 0, 0]
+    pod.packet(sealed(b"\x90\x01" + FIELDS))
+    assert ids(pod) == [1, 2, 3, 6, 7, 0, 0, 0]
+    for wrong, right in (("missing0 2", "missing0 1"), ("missing7 1", "missing7 0"), ("written6 1", "written6 0")):
+        talk(pod, "X %s => X\n D => D !3\n T => T !3\n X %s => X\n D => D" % (wrong, right), lab_line)
+    talk(pod, "X written4 1 => X\n D => D\n X missing0 2 => X\n X missing1 1 => X\n P => P !3\n Z => Z\n P => P -\n"
+         "X missing8 0 => ?\n X missing 0 => ?\n X missing0 256 => ?\n X missing0 -1 => ?", lab_line)
+
+
 def run():
     """All of them."""
     for part in (shown_crc, shown_words, shown_acknowledgement, shown_frames, handed_over, dropped, output_refused,
-                 shown_session, drop_without_a_block, refused_lines, lab_shown, lab_refused, lab_read, lab_memory):
+                 shown_session, drop_without_a_block, refused_lines, lab_shown, lab_refused, lab_read, lab_memory,
+                 kept_list):
         part()
     print("model: ok, the shown examples hold")
 

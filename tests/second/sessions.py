@@ -11,19 +11,19 @@ import sys
 import time
 
 from model import Pod, console_line
-from moves import bench, output, packets, words
+from moves import bench, output, packets, words, writes
 from ports import labels
 
 # move: weight in a session of no special kind
 WEIGHTS = {
     packets.initialise: 2, packets.initialise_edge: 3, packets.update: 3, packets.update_edge: 3,
-    packets.status: 6, bench.sleep: 1, packets.write: 10, packets.write_all_asked: 2,
+    packets.status: 6, bench.sleep: 1, packets.write: 10, packets.write_all_asked: 2, writes.listed: 1,
     packets.read: 6, packets.read_all: 0.7, packets.fetch: 20, packets.exchange: 4,
     packets.acknowledge: 8, packets.acknowledge_near: 2, packets.damaged: 5,
     packets.wrong_length: 5, packets.short: 2, packets.second_byte: 3, packets.unknown: 3,
     packets.empty: 2, packets.any_bytes: 2, packets.any_command: 4,
     words.load: 6, words.address: 5, words.read: 5, words.whole_table: 0.3, words.stop: 2,
-    words.starts: 1, words.bad_command: 8, words.stray: 5, words.status_word: 8,
+    words.starts: 1, words.bad_command: 8, words.twin: 1.5, words.stray: 5, words.status_word: 8,
     bench.put: 12, bench.put_few: 3, bench.put_wrong: 2, bench.fill_priority: 0.5,
     bench.fill_ordinary: 0, bench.full_asleep: 0.1, bench.drain: 2, bench.marked: 3, bench.samples: 3,
     bench.bad_samples: 3, bench.pipe_bytes: 5, bench.timeouts: 0.4, bench.timeout: 2,
@@ -41,13 +41,14 @@ KINDS = {
                  bench.power: 0.1, bench.put_few: 3, words.load: 0.3, words.read: 0.3}),
     "words": (18, {words.load: 8, words.read: 6, words.address: 4, words.whole_table: 6,
                    words.starts: 3, packets.initialise: 0.5, bench.sleep: 0.6}),
-    "parameters": (8, {packets.write: 8, packets.write_all_asked: 8, packets.read_all: 5,
+    "parameters": (8, {packets.write: 8, packets.write_all_asked: 8, writes.listed: 16, packets.read_all: 5,
                        packets.update_edge: 3, packets.initialise_edge: 3}),
     "pipe": (5, {bench.pipe_bytes: 5, bench.timeouts: 20, bench.timeout: 4, bench.samples: 4,
                  bench.bad_samples: 4, output.packet: 4, output.wrong: 4, output.taken: 5, output.hand_over: 5,
                  output.stall: 5, output.both: 8, output.timeouts: 20, output.renewed: 5}),
     "asleep": (4, {bench.sleep: 12, bench.full_asleep: 10, output.sleep: 10, words.stray: 3}),
-    "hires": (3, {packets.initialise: 8, bench.sleep: 8, bench.power: 4, output.sleep: 8, output.renewed: 8}),
+    "hires": (3, {packets.initialise: 8, bench.sleep: 8, bench.power: 4, output.sleep: 8, output.renewed: 8,
+                  writes.listed: 8}),
 }
 
 INTERLUDES = (

@@ -19,7 +19,8 @@ ITEMS = re.compile(r"\$ printf '(.*)' \| \./run session\n((?:    .*\n)+)")
 # the parts of the state that lab sets to one number
 NAMES = "initialised mode flags seconds milliseconds poll error timeouts gathered out outtimeouts".split()
 NAMES += [part + store for store in "01" for part in ("limit", "remaining", "oldest", "waiting")]
-NAMES += [part + str(id) for part in ("param", "written") for id in range(1, 13)] + ["place5", "place6", "place7", "address"]
+NAMES += [part + str(id) for part in ("param", "written") for id in range(1, 13)] + ["missing%d" % at for at in range(8)]
+NAMES += ["place5", "place6", "place7", "address"]
 
 
 class Programs(Part):
@@ -97,7 +98,7 @@ class Programs(Part):
                 self.desk.lab(row.where, [("X %s %d" % (name, value), told) for value, told in (
                     (least, "X"), (most, "X"), (least - 1, "?"), (most + 1, "?"))])
         self.desk.lab(row.where, [("X %s 0" % name, "?") for name in (
-            "limit2", "param0", "param13", "written13", "place4", "place8", "Mode", "")])
+            "limit2", "param0", "param13", "written13", "missing", "missing8", "place4", "place8", "Mode", "")])
 
     def check_readme(self):
         """README's session."""

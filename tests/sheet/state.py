@@ -26,7 +26,8 @@ OTHER = {**VALUES, "mode": 3, "flags": 9, "time": (5, 6), "priority limit": 7, "
          "memory limit": 8, "memory remaining": 5, "poll": 11}
 PARTS = {"limits": "limit", "remainings": "remaining", "open exchange": "exchange", "waiting blocks": "waiting",
          "place of the oldest block": "oldest",
-         "parameters": "values", "marks of written parameters": "written", "table words": "tables", "read places": "places",
+         "parameters": "values", "marks of written parameters": "written", "missing ids": "missing", "table words": "tables",
+         "read places": "places",
          "given address": "address", "open transfer": "transfer", "message error": "message_error",
          "gathered bytes": "gathered", "input timeouts": "timeouts", "bytes in hand": "hand", "output timeouts": "output_timeouts"}
 # what a part's text says where it is not the part's name in lab
@@ -209,7 +210,9 @@ class State(Part):
                 (["transfer 5 0 64 63 0"], "D"), (["transfer 5 0 64 64 0"], "D !3"), (["transfer 5 0 3 0 0"], "D !3"),
                 (["transfer 6 1 64 0 67"], "D"), (["transfer 6 1 64 0 68"], "D !3"), (["transfer 6 1 65 0 0"], "D !3"),
                 (["transfer 1 0 1 0 0"], "D"), (["exchange 145"], "D"), (["exchange 145", "initialised 0"], "D !3"),
-                (["transfer 1 0 1 0 0", "initialised 0"], "D !3"), (["initialised 0"], "D")):
+                (["transfer 1 0 1 0 0", "initialised 0"], "D !3"), (["initialised 0"], "D"),
+                (["missing4 0"], "D !3"), (["missing5 1"], "D !3"), (["missing0 2", "missing1 1"], "D !3"),
+                (["written7 1"], "D !3"), (["written7 1", "missing4 0"], "D"), (["written7 0", "written8 1"], "D")):
             self.desk.lab(where, [self.packets.begin()] + [("X " + one, "X") for one in sets] + [("D", told)])
 
     def check_parts(self):
@@ -225,6 +228,7 @@ class State(Part):
         events = [b"Z"] + [asked(self.packets.packet(code, OTHER)).encode() for code in (0x90, 0x92, 0x9F)]
         for row, part in zip(table, parts):
             starts = {"no": [False], "0": [0, {0x95: 0, 0x96: 0}, {5: 0, 6: 0, 7: 0}], "1,000": [1000], "their starts": [fresh[part]]}
+            starts["1 2 3 6 7 0 0 0"] = [[1, 2, 3, 6, 7, 0, 0, 0]]
             starts["none"] = [None, set(), b""] + [fresh[part]] * (part == "waiting" and not any(fresh[part].values()))
             if fresh[part] not in starts[row[1]]:
                 row.fault("it starts otherwise")

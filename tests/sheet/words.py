@@ -65,7 +65,7 @@ class Words(Part):
         self.desk.case(row.where, pairs)
 
     def case_status(self, table, ids):
-        """The asked ids are missing until each is written."""
+        """The asked ids are missing until each is written; a second write and one of an id that is not asked keep the rest."""
         packets = self.packets
         pairs = [packets.begin()]
         for at in range(len(ids) + 1):
@@ -73,8 +73,8 @@ class Words(Part):
             values = {"mode": VALUES["mode"], "flags": VALUES["flags"], "priority blocks waiting": 0,
                       "ordinary blocks waiting": 0, "request": 0, "missing ids": missing}
             pairs.append((asked(packets.packet(0x91)), packets.answer(0x91, values)))
-            if at < len(ids):
-                pairs.append((asked(packets.packet(0x93, {"id": ids[at], "value": ROWS[ids[at]][2]})), packets.success(0x93)))
+            for id in [one for one in ROWS if one not in ids] + ids[:at + 1]:
+                pairs.append((asked(packets.packet(0x93, {"id": id, "value": ROWS[id][2]})), packets.success(0x93)))
         self.desk.case(table.rows[0].where, pairs)
 
     def check_bits(self):

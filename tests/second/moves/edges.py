@@ -7,7 +7,7 @@ outside breaks the edge's bound and no other.
 from collections import namedtuple
 
 from ports.bounds import BOUNDS
-from ports.params import ROWS
+from ports.params import ASKED, PLACES, ROWS, missing_of
 from ports.sizes import CAPACITY, NAMES, SIZES
 
 Edge = namedtuple("Edge", "bound inside outside")
@@ -90,7 +90,37 @@ def asleep():
     yield Edge(None, parts + ["initialised 0"], None)
 
 
-EDGES = [edge for part in (stores, parameters, numbers, transfers, asleep) for edge in part()]
+def marks(written, kept):
+    """The marks of the asked parameters, and the kept list."""
+    return ["written%d %d" % (id, id in written) for id in ASKED] + ["missing%d %d" % pair for pair in enumerate(kept)]
+
+
+def swapped(kept, one, other):
+    """A list with two of its places exchanged."""
+    kept = list(kept)
+    kept[one], kept[other] = kept[other], kept[one]
+    return kept
+
+
+def changed(kept, at, id):
+    """A list with another number at one place."""
+    return kept[:at] + [id] + kept[at + 1:]
+
+
+def lists():
+    """'the kept list is exactly the one that document 01 defines from the written marks': two
+    swapped, one mark more and one fewer, zeros that are not zero, one place wrong."""
+    fresh, few, last = missing_of(()), missing_of((3, 7)), PLACES - 1
+    for bound, written, kept in (
+            ("list in another order", (), swapped(fresh, 0, 1)), ("list in another order", (3, 7), swapped(few, 2, 3)),
+            ("list for other marks", (1,), fresh), ("list for other marks", ASKED[:-1], missing_of(ASKED)),
+            ("list with more behind it", (), changed(fresh, last, 1)),
+            ("list with more behind it", ASKED, changed(missing_of(ASKED), 0, 4)),
+            ("list for no marks", (), changed(fresh, 4, 8)), ("list for no marks", (3, 7), changed(few, 0, 0))):
+        yield Edge(bound, marks(written, missing_of(written)), marks(written, kept))
+
+
+EDGES = [edge for part in (stores, parameters, numbers, transfers, asleep, lists) for edge in part()]
 OUTSIDE = [edge for edge in EDGES if edge.outside]
 assert {edge.bound for edge in OUTSIDE} == set(BOUNDS)
 
@@ -98,3 +128,10 @@ assert {edge.bound for edge in OUTSIDE} == set(BOUNDS)
 def lines(settings):
     """The lines that set these parts."""
     return [b"X " + setting.encode() for setting in settings]
+
+
+def needed(pod, settings):
+    """The settings without those of marks and places of the list that are so already."""
+    there = {"written%d %d" % (id, id in pod.written) for id in ASKED}
+    there |= {"missing%d %d" % pair for pair in enumerate(pod.missing)}
+    return [setting for setting in settings if setting not in there]

@@ -7,7 +7,8 @@ from ports.refusal import RIGHT
 from ports.sizes import CAPACITY, ORDINARY, PRIORITY, SIZES
 
 from . import bench, output, packets, words
-from .edges import EDGES, lines
+from .edges import EDGES, lines, needed
+from .writes import NOT_ASKED
 
 GREATEST = (2 ** 16 - 1, 2 ** 32 - 1)
 CODES = (145, 148, 149, 150)
@@ -113,10 +114,10 @@ def span(rng):
 
 
 def parameter(rng):
-    """One of the others, and some marks."""
+    """One of the others, and some marks that the list does not go by."""
     id = rng.randint(3, 12)
     least, most = ROWS[id][:2]
-    marks = ["written%d %d" % (rng.randint(1, 12), rng.randint(0, 1)) for _ in range(rng.randint(0, 3))]
+    marks = ["written%d %d" % (rng.choice(NOT_ASKED), rng.randint(0, 1)) for _ in range(rng.randint(0, 3))]
     return ["param%d %d" % (id, rng.choice((least, most, rng.randint(least, most))))] + marks
 
 
@@ -223,9 +224,9 @@ def edge(s, chosen=None, name=None):
     """One outside a bound and a call, then one inside it and a call."""
     chosen = chosen or s.rng.choice(EDGES)
     if chosen.outside:
-        set_parts(s, chosen.outside)
+        set_parts(s, needed(s.pod, chosen.outside))
         call(s, name)
-    set_parts(s, chosen.inside)
+    set_parts(s, needed(s.pod, chosen.inside))
     call(s, name)
 
 
@@ -257,6 +258,12 @@ def lent(s):
         s.say(b"L %s %d" % (thing.encode(), size))
     s.rng.choice((call, call, call, out_of_range, malformed))(s)
     call(s)
+
+
+def wrong_size(s, name, thing, over):
+    """One thing about its right size, and a call that is lent it."""
+    s.say(b"L %s %d" % (thing.encode(), RIGHT[thing] + over))
+    call(s, name)
 
 
 def just_out(s, name):

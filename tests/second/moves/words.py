@@ -191,6 +191,14 @@ def bad_command(s):
         rng.getrandbits(16))))
 
 
+def twin(s):
+    """The twin, in bit 15, of a command word that is accepted, between two status words: it alone can have set the error."""
+    kind = s.rng.choice(((0, 0), (0, 1), (1, 1), (s.rng.choice((5, 6, 7)), some_n(s.rng), s.rng.choice((0, READ)))))
+    status_word(s)
+    say_command(s, command_word(*kind) ^ 0x8000)
+    status_word(s)
+
+
 def stray(s):
     """A data word in or out, whatever is open."""
     if s.rng.random() < 0.5:

@@ -1,6 +1,8 @@
-"""The bounds of the state (document 01, 'Refused calls'), in the order of their sentence."""
+"""The bounds of the state (document 01, 'Refused calls'), in the order of their sentence, and of the requests."""
 
-from .params import ROWS
+from itertools import combinations
+
+from .params import ASKED, ROWS, missing_of
 from .sizes import CAPACITY, NAMES, ORDINARY, PRIORITY, SIZES
 
 # the names of the bounds, but for two that no state breaks alone, since 1 is below 2
@@ -14,6 +16,12 @@ BOUNDS += ["%s %d %s" % (kind, table, part) for kind in ("load", "read") for tab
            for part in ("N under 4", "N over 64", "along")]
 BOUNDS += ["read %d past its table" % table for table in SIZES]
 BOUNDS += ["exchange while not initialised", "transfer while not initialised"]
+# one bound, and four ways to break it
+LISTED = ["list in another order", "list for other marks", "list with more behind it", "list for no marks"]
+BOUNDS += LISTED
+
+# the right lists, one for each choice of marks
+LISTS = [missing_of(some) for count in range(len(ASKED) + 1) for some in combinations(ASKED, count)]
 
 
 def stores(pod):
@@ -97,7 +105,23 @@ def asleep(pod):
         yield "transfer while not initialised"
 
 
+def listed(pod):
+    """By request No. 5 'the kept list is exactly the one that document 01 defines from the written
+    marks'."""
+    right = missing_of(pod.written)
+    if pod.missing == right:
+        return
+    if sorted(pod.missing) == sorted(right):
+        yield "list in another order"
+    elif pod.missing in LISTS:
+        yield "list for other marks"
+    elif [id for id in right if id] == pod.missing[:len(right) - right.count(0)]:
+        yield "list with more behind it"
+    else:
+        yield "list for no marks"
+
+
 def broken(pod):
     """The names of the bounds that the state breaks."""
-    parts = (stores, parameters, fields, pipe, places, transfer, asleep)
+    parts = (stores, parameters, fields, pipe, places, transfer, asleep, listed)
     return [name for part in parts for name in part(pod)]

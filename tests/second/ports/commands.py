@@ -55,11 +55,13 @@ class Commands:
             if self.initialised:
                 hit("initialise: refused while initialised")
             self.count_kept("initialise: refused,")
+            self.count_unfilled("initialise: refused,")
             return error(code, 0x39)
         hit("initialise: while initialised" if self.initialised
             else "initialise: after a shutdown or from power")
         self.forget_transfer("initialise")
         self.count_forgotten("initialise")
+        self.count_refilled("initialise")
         self.power_on()
         self.initialised = True
         self.take_fields(body)
@@ -70,8 +72,10 @@ class Commands:
         fault = fields_fault(body)
         if fault:
             hit("packet 92: " + fault)
+            self.count_unfilled("update: refused,")
             return error(code, 0x39)
         self.count_kept("update:")
+        self.count_unfilled("update:")
         self.take_fields(body)
         self.updated = True
         return done(code)
@@ -120,6 +124,7 @@ class Commands:
         message error.'"""
         hit("shutdown: with a transfer open" if self.transfer else "shutdown: with no transfer open")
         self.count_kept("shutdown:")
+        self.count_unfilled("shutdown:")
         if self.output_timeouts:
             hit("shutdown: output timeouts kept")
         self.close_transfer("shutdown")

@@ -9,11 +9,11 @@ and `?` lines are no calls'.
 import re
 import struct
 
-from .bounds import BOUNDS
+from .bounds import BOUNDS, LISTED, listed
 from .labels import declare, hit
 from .lines import console_line
 from .packets import crc
-from .params import ROWS
+from .params import ASKED, PLACES, ROWS
 from .refusal import LENT, RIGHT
 from .sizes import ORDINARY, PRIORITY, SIZES
 from .words import Transfer
@@ -39,8 +39,24 @@ def one_of(name, key):
 
 
 def mark(id):
-    """Sets whether a parameter was written."""
-    return lambda pod, n: pod.written.add(id) if n else pod.written.discard(id)
+    """Sets whether a parameter was written: the mark alone, so the list may be one for other marks
+    then."""
+    def change(pod, n):
+        if id not in ASKED:
+            hit("lab X written: of one that is not asked")
+        else:
+            hit("lab X written: as it was" if n == (id in pod.written) else "lab X written: changed")
+        (pod.written.add if n else pod.written.discard)(id)
+    return change
+
+
+def place(at):
+    """Sets one place of the list of missing ids."""
+    def change(pod, n):
+        before = any(listed(pod))
+        pod.missing[at] = n
+        hit("lab X missing: %s before, %s after" % (("right", "wrong")[before], ("right", "wrong")[any(listed(pod))]))
+    return change
 
 
 def or_none(n):
@@ -68,6 +84,8 @@ for _digit, _store in enumerate(STORES):
 for _id in ROWS:
     PARTS["param%d" % _id] = (range(-2 ** 31, 2 ** 31), one_of("values", _id))
     PARTS["written%d" % _id] = (range(2), mark(_id))
+for _at in range(PLACES):
+    PARTS["missing%d" % _at] = (BYTE, place(_at))
 for _table in SIZES:
     PARTS["place%d" % _table] = (BYTE, one_of("places", _table))
 
@@ -77,6 +95,9 @@ declare("lab X: malformed", "lab X: no such name", "lab X: not one number", "lab
         "lab L: malformed", "lab L: no such thing", "lab V: shown", "lab V: malformed", "lab L: last counts",
         "lab L: kept over a line that is no call", "lab L: ended by a call that is not refused",
         "lab L: ended by a refused call")
+declare(*["lab X written: " + what for what in ("changed", "as it was", "of one that is not asked")])
+declare(*["lab X missing: %s before, %s after" % (before, after) for before in ("right", "wrong")
+          for after in ("right", "wrong")])
 # rows 1 to 3, which the lines of `console` never meet
 declare(*["line %s: refused" % letter for letter in "PDCWRSZ"])
 declare("lab packet: room under 260")
@@ -84,6 +105,7 @@ declare(*["lab %s: %s %s its size" % (call, thing, way) for call in LENT for thi
           for way in ("under", "over")])
 declare(*["lab %s: %s" % (call, bound) for call in LENT if call != "power on"
           for bound in BOUNDS + ["more than one bound"]])
+declare(*["lab power on: %s, mended" % way for way in LISTED])
 
 
 def transfer_of(command, reading, n, along, start):
@@ -206,7 +228,7 @@ def shown_memory(pod):
 
 
 def shown_output(pod):
-    """Behind all the rest: bytes in hand, output timeouts, and the bytes in hand, 8 at most."""
+    """Behind these: bytes in hand, output timeouts, and the bytes in hand, 8 at most."""
     return [len(pod.hand), pod.output_timeouts], pod.hand[:8]
 
 
@@ -219,7 +241,9 @@ def line_v(pod, line):
     counts, hand = shown_output(pod)
     return b"V" + b"".join([b" %d" % n for n in shown_numbers(pod)]
                            + [b" %04X" % crc(part) for part in shown_memory(pod)]
-                           + [b" %d" % n for n in counts] + [b" %04X" % crc(hand)])
+                           + [b" %d" % n for n in counts] + [b" %04X" % crc(hand)]
+                           # behind all the rest, the eight places of missing ids
+                           + [b" %d" % id for id in pod.missing])
 
 
 LINES = {b"X": line_x, b"L": line_l, b"V": line_v}

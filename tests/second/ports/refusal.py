@@ -7,7 +7,7 @@ lower ones first, but for those of request No. 3, '22 before 6, 21 last'. No lin
 or `console` leads to rows 1 to 3: their labels are declared with the lines of `lab` that do.
 """
 
-from .bounds import broken
+from .bounds import broken, listed
 from .labels import declare, hit
 from .sizes import BLOCK, CAPACITY, LETTERS, SIZES
 
@@ -56,7 +56,9 @@ class Rows:
             hit("lab %s: %s %s its size" % (call, thing, way))
         if wrong:
             raise Refused(2)
-        # power on is handed no state
+        # power on is handed no state, so it mends a list too
+        for name in listed(self) if call == "power on" else ():
+            hit("lab power on: %s, mended" % name)
         outside = [] if call == "power on" else broken(self)
         if outside:
             hit("lab %s: %s" % (call, outside[0] if len(outside) == 1 else "more than one bound"))

@@ -66,7 +66,7 @@ CALLS = {
 
 def state(pod):
     """All that V shows, whole."""
-    return shown_numbers(pod), [bytes(part) for part in shown_memory(pod)], shown_output(pod)
+    return shown_numbers(pod), [bytes(part) for part in shown_memory(pod)], shown_output(pod), list(pod.missing)
 
 
 class Book:

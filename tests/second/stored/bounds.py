@@ -30,11 +30,11 @@ def kept_memory(book):
 
 
 def free_parts(book):
-    """What no bound holds, at its greatest: flags, seconds, limits, marks, and the given address
-    with reads up to the table's end and past it."""
+    """What no bound holds, at its greatest: flags, seconds, limits, marks with the list that goes with
+    them, and the given address with reads up to the table's end and past it."""
     awake(book)
     book.settle(["flags 65535", "seconds 4294967295", "limit0 65535", "limit1 4294967295", "remaining1 4294967295"]
-                + ["written%d 1" % id for id in range(1, 13)])
+                + ["written%d 1" % id for id in range(1, 13)] + ["missing%d 0" % at for at in range(8)])
     for line in (packet("9101"), packet("91017E"), packet("9601"), packet("96017E"), b"S"):
         book.call(line)
     for table, size in SIZES.items():

@@ -10,13 +10,15 @@ NO_NAMES = """
     remaining2 remaining oldest oldest2 waiting waiting01 initialise initialisedx Mode mod modes millisecond
     millisecondss milliseconds0milliseconds second polls errors timeout exchanges addres transfers gather outs
     out0 ou outtimeout outtimeout0 outtimeoutss intimeouts
+    missing missing8 missing9 missing10 missing00 missing01 missing07 missing7x missings missings0 missin0 Missing0
     room p o 5 6 7 V X""".split()
 
 NO_LINES = (
     b"X|X |X mode|X mode |X  mode 1|X mode  1|X mode 1 | X mode 1|X mode 1 1|Xmode 1|X mode1|x mode 1|X mode +1|"
     b"X mode -|X mode --1|X mode 1-|X mode 0x1|X mode 1.0|X mode 1,0|X mode A|X\tmode 1|X mode\t1|X 1|X mode one|"
     b"X mode /|X mode :|X transfer|X written|X out|X out |X out 1 1|X out1|X out -|"
-    b"X outtimeouts|V |V 1|VV|v| V").split(b"|")
+    b"X outtimeouts|X missing0|X missing0 |X missing7 1 2|X missing 0|X missing 0 1|X missing0 -|X missing0 +1|"
+    b"X missing0  1|X missing01|X missing0\t1|X missing-1 1|V |V 1|VV|v| V").split(b"|")
 
 NO_LENDS = (
     b"L|L |L room|L room |L 5|L  5 1|L 5  1|L 5 1 |L 5 64 64|L room -1|L room 00000000260|L room 9999999999|L 4 64|"
@@ -29,7 +31,8 @@ SPELLED = (
     b"mode 0256|mode 00255|mode -1|exchange 0000000145|exchange -01|exchange 150|exchange -0|exchange -145|"
     b"exchange -0000000001|address 007|address -1|address -0|address -2|address -001|initialised 01|initialised -1|"
     b"gathered 9|gathered 08|gathered -0|out 10|out 009|out -0|out -1|out 0000000008|outtimeouts 0255|outtimeouts 256|"
-    b"outtimeouts -0|outtimeouts 00000000015").split(b"|")
+    b"outtimeouts -0|outtimeouts 00000000015|missing0 0255|missing0 256|missing0 -0|missing0 -1|missing7 0000000007|"
+    b"missing7 00000000008|missing7 65536|missing3 4294967296|missing3 -255|missing3 9999999999").split(b"|")
 
 TRANSFERS = (
     b"1 0 1 0 0|-1|01 -0 001 0000000000 0|-01|5 0 255 255 0|6 1 255 255 255|7 0 0 0 0|5 1 0 0 0|6 0 64 63 0|"

@@ -2,7 +2,7 @@
 
 from model import Pod
 
-from .named import changed, wrong
+from .named import changed, lab_alone, wrong
 
 
 @wrong
@@ -78,7 +78,7 @@ class HiddenAsleep(Pod):
         return frame if self.initialised else changed(changed(frame, 0, frame[0] & 0xF0), 5, frame[5] & 0x7F)
 
 
-@wrong
+@lab_alone
 class NineInHand(Pod):
     """nine in hand are within the bounds"""
 
@@ -90,7 +90,7 @@ class NineInHand(Pod):
             self.hand = held
 
 
-@wrong
+@lab_alone
 class SixteenTimeouts(Pod):
     """sixteen output timeouts are within the bounds"""
 

@@ -1,6 +1,8 @@
 """The wrong pods by their names."""
 
 WRONG = {}
+# the names of those that no line of `console` can notice
+LAB_ALONE = set()
 
 
 def wrong(pod):
@@ -8,6 +10,12 @@ def wrong(pod):
     assert pod.__doc__ not in WRONG, pod.__doc__
     WRONG[pod.__doc__] = pod
     return pod
+
+
+def lab_alone(pod):
+    """One more, wrong where no line of `console` leads: out of the bounds, or in what `V` alone shows."""
+    LAB_ALONE.add(pod.__doc__)
+    return wrong(pod)
 
 
 def changed(frame, at, byte):
