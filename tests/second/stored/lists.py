@@ -36,12 +36,13 @@ def orders():
 def struck(book):
     """Each asked id written behind each choice of the others, with a Status behind it; and written again when
     the others have been."""
+    book.say(b"Z")
     for order in orders():
-        book.call(INITIALISE)
+        book.refused(INITIALISE, 0)
         for id in order:
-            book.call(write(id))
+            book.refused(write(id), 0)
             book.say(STATUS)
-        book.call(write(order[0]))
+        book.refused(write(order[0]), 0)
 
 
 def kept(book):

@@ -152,3 +152,28 @@ class Emptied(Pod):
         answer = super().status(code, body)
         self.missing = list(NONE)
         return answer
+
+
+class Marks(set):
+    """Marks that bring the list with them, whoever sets them."""
+
+    def __init__(self, pod):
+        super().__init__()
+        self.pod = pod
+
+    def add(self, id):
+        super().add(id)
+        self.pod.missing = missing_of(self)
+
+    def discard(self, id):
+        super().discard(id)
+        self.pod.missing = missing_of(self)
+
+
+@lab_alone
+class Brought(Pod):
+    """a mark that X sets changes the list too"""
+
+    def parameters_to_starts(self):
+        super().parameters_to_starts()
+        self.written = Marks(self)
