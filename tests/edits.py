@@ -10,7 +10,7 @@ import re
 import sys
 
 ROOT = pathlib.Path(__file__).resolve().parent.parent
-PROOFS = {'Shown': 'all-shown', 'Computed': 'all-computed', 'Edges': 'all-edges', 'Conversation': 'conversed', 'Bounds': 'all-bounds',
+PROOFS = {'Shown': 'all-shown', 'Computed': 'all-computed', 'Edges': 'all-edges', 'Conversation': 'conversed', 'Bounds': 'all-bounds', 'Missing': 'all-missing',
           'WordsComputed': 'all-words', 'Packets': 'all-packets', 'Acknowledgements': 'all-acknowledgements'}
 # crates that hand on what others promise, or promise no more than to end: docs/PROMISES.md, 'Looser promises'
 BESIDE = ('pod', 'line_loop', 'aircraft_loop', 'vectors', 'repeats')

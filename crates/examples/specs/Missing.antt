@@ -79,7 +79,7 @@ wrongly =
     -- "then zeros": a zero between, zeros first
     ∷ unmarked (1 ∷ 2 ∷ 0 ∷ 3 ∷ 6 ∷ 7 ∷ 0 ∷ 0 ∷ [])
     ∷ unmarked (0 ∷ 0 ∷ 0 ∷ 1 ∷ 2 ∷ 3 ∷ 6 ∷ 7 ∷ [])
-    -- an id left out: the first, the last, one with its place left empty; all; one that is not asked
+    -- an id left out: the first, the last, one with its place left empty, all; and one more that is not asked
     ∷ unmarked (2 ∷ 3 ∷ 6 ∷ 7 ∷ 0 ∷ 0 ∷ 0 ∷ 0 ∷ [])
     ∷ unmarked (1 ∷ 2 ∷ 3 ∷ 6 ∷ 0 ∷ 0 ∷ 0 ∷ 0 ∷ [])
     ∷ unmarked (1 ∷ 0 ∷ 3 ∷ 6 ∷ 7 ∷ 0 ∷ 0 ∷ 0 ∷ [])
@@ -230,8 +230,9 @@ shownFrom w (c ∷ cs) = (getD (step w c .told .bytes) 2 0 ∷ listIn (next w c)
 abbrev pub takenBack : World → World
 takenBack w = withPod (unmarked (listIn w) (w .pod)) w
 
--- the list as from power and just initialised; and every call but power on, of a list in another order, of zeros that are not, of a mark
--- more, and of a write of 1 whose mark is taken back; power on puts each right
+-- the list as from power and just initialised; every call but power on, of a list in another order, of a last place that is not 0, of a
+-- mark more, put right by power on, of a mark of 4, and of a write of 1 with its mark and without; and that Initialise, Status and a write
+-- mend nothing
 abbrev pub listLines : World → List ComputedLine
 listLines awake =
     line (listIn justPowered) (1 ∷ 2 ∷ 3 ∷ 6 ∷ 7 ∷ 0 ∷ 0 ∷ 0 ∷ [])
@@ -243,6 +244,9 @@ listLines awake =
     ∷ line (refusalsIn (bent (marking (0 ∷ 0 ∷ 0 ∷ 1 ∷ replicate 8 0) allMissing)) judges) judgedAwake
     ∷ line (refusalsIn (final awake (writes 1 0 0 [] .call ∷ [])) judges) judgedAwake
     ∷ line (refusalsIn (takenBack (final awake (writes 1 0 0 [] .call ∷ []))) judges) (replicate 13 3)
+    ∷ line
+      (refusalsIn (bent (unmarked (2 ∷ 1 ∷ 3 ∷ 6 ∷ 7 ∷ 0 ∷ 0 ∷ 0 ∷ [])))
+      (tries (asked.Initialise freshFields) 0 [] .call ∷ tries asked.Status 0 [] .call ∷ writes 1 0 0 [] .call ∷ [])) (3 ∷ 3 ∷ 3 ∷ [])
     ∷ []
 
 pub record Missing : Type 0 where

@@ -1,4 +1,5 @@
--- How the kept list is judged: as one number, against the number of the right list.
+-- The code's way to judge the kept list: as one number, against that of the right list. No rule is said by it: the rule is `listKept`
+-- (Rules.antt), and a reader of the rules may skip this file.
 -- Assumes nothing.
 use Prim.Native.Nat.{ℕ, _+_, _*_, _/_, _%_}
 use mathlib.Core.Bool.{Bool, true, false, not, _&&_, cond}
@@ -7,6 +8,7 @@ use lib.Dec.{eqb, ltb}
 use lib.ListN.{getD, replicate}
 use lib.Seq.{sets}
 
+-- 1 for a mark
 abbrev pub bitOf : Bool → ℕ
 bitOf b = cond b 1 0
 
@@ -15,6 +17,7 @@ unfoldable pub lowFirst : List ℕ → ℕ
 lowFirst [] = 0
 lowFirst (x ∷ l) = x + 256 * lowFirst l
 
+-- each number is a byte's
 unfoldable pub bytes : List ℕ → Bool
 bytes [] = true
 bytes (x ∷ l) = ltb x 256 && bytes l

@@ -66,7 +66,7 @@ sameList [] (y ∷ ys) = false
 sameList (x ∷ xs) [] = false
 sameList (x ∷ xs) (y ∷ ys) = eqb x y && sameList xs ys
 
--- request No. 5: "the kept list is exactly the one that document 01 defines from the written marks"; there are twelve
+-- request No. 5: "the kept list is exactly the one that document 01 defines from the written marks", of which there are twelve
 unfoldable pub listKept : Params → Bool
 listKept p = eqb (length (p .written)) 12 && sameList (p .missing) (missingOf p)
 

@@ -55,7 +55,8 @@ sizesIn l =
       load = length (l .load);
     }
 
--- all of a world but "parameters, table words and survey blocks" (the words of a load are table words)
+-- all of a world but "parameters, table words and survey blocks" (the words of a load are table words; marks and the list of missing
+-- ids go with the parameters)
 pub record Seen : Type 0 where
   pub initialised : Bool
   pub fields : Fields

@@ -92,7 +92,7 @@ isClosed (Receive s) = false
 unfoldable pub restful : Pod → Bool
 restful p = p .initialised || (isClosed (p .exchange) && not (isOpen (p .words .transfer)))
 
--- "Bounds of the state", each crate's own and that last sentence
+-- "Bounds of the state", each crate's own (of the pipe request No. 3's two among them, of the parameters request No. 5's) and that last sentence
 unfoldable pub soundPod : Pod → Bool
 soundPod p =
     soundRing (capacityOf Priority) (p .priority)
