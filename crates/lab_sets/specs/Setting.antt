@@ -3,7 +3,7 @@
 use Prim.Native.Nat.{ℕ, _-_}
 use mathlib.Core.Bool.{Bool, true, false, cond}
 use mathlib.Core.List.{List, [], _∷_}
-use lib.Dec.{eqb}
+use lib.Dec.{eqb, ltb}
 use lib.IntN.{ℤ}
 use lib.ListN.{getD, set, replicate}
 use Rattle.blocks.specs.declared.Ring.{Ring}
@@ -18,7 +18,7 @@ use Rattle.rules.specs.State.{withInitialised, withFields, withParams, withExch
 use Rattle.lab_sets.specs.declared.Field.{Field}
 use Rattle.lab_sets.specs.declared.Field.the-variants.{Mode, Flags, Seconds, Milliseconds, Limit, Remaining, Poll}
 use Rattle.lab_sets.specs.declared.Cell.{Cell}
-use Rattle.lab_sets.specs.declared.Cell.the-variants.{Initialised, Field as field, Written, Error, Place, Oldest, Waiting, Gathered, Timeouts, Out, Outtimeouts}
+use Rattle.lab_sets.specs.declared.Cell.the-variants.{Initialised, Field as field, Written, Missing, Error, Place, Oldest, Waiting, Gathered, Timeouts, Out, Outtimeouts}
 use Rattle.lab_sets.specs.declared.Change.{Change}
 use Rattle.lab_sets.specs.declared.Change.the-variants.{Nothing, Cell as cell, Value, Exchange, Address, Transfer, Thing as thing}
 use Rattle.lab_sets.specs.declared.Changed.{Changed}
@@ -44,12 +44,16 @@ fieldPlace Poll = 8
 abbrev pub fieldSet : Field → ℕ → Fields → Fields
 fieldSet x n f = fieldsOf (set (fieldNumbers f) (fieldPlace x) n)
 
--- a parameter's value and its mark
+-- a parameter's value and its mark, each alone: the kept list stays, though it may then be wrong
 unfoldable pub valueSet : ℕ → ℤ → Params → Params
-valueSet id v q = cond (isId id) (record { values = set (q .values) (id - 1) v; written = q .written }) q
+valueSet id v q = cond (isId id) (record { values = set (q .values) (id - 1) v; written = q .written; missing = q .missing }) q
 
 unfoldable pub markSet : ℕ → Bool → Params → Params
-markSet id b q = cond (isId id) (record { values = q .values; written = set (q .written) (id - 1) b }) q
+markSet id b q = cond (isId id) (record { values = q .values; written = set (q .written) (id - 1) b; missing = q .missing }) q
+
+-- of request No. 5: a place of the kept list, from 0 on
+unfoldable pub missingSet : ℕ → ℕ → Params → Params
+missingSet k n q = cond (ltb k 8) (record { values = q .values; written = q .written; missing = set (q .missing) k n }) q
 
 -- "`gathered` n, n bytes of 0"
 abbrev pub gathering : ℕ → Pipe → Pipe
@@ -72,6 +76,7 @@ unfoldable pub cellSet : Cell → ℕ → Pod → Pod
 cellSet Initialised n p = withInitialised (eqb n 1) p
 cellSet (field x) n p = withFields (fieldSet x n (p .fields)) p
 cellSet (Written id) n p = withParams (markSet id (eqb n 1) (p .params)) p
+cellSet (Missing k) n p = withParams (missingSet k n (p .params)) p
 cellSet Error n p = withWords (withError (eqb n 1) (p .words)) p
 cellSet (Place t) n p = withWords (withPlaces (withReadPlace t n (p .words .places)) (p .words)) p
 cellSet (Oldest s) n p = withRing s (ring n (ringOf s p .waiting)) p

@@ -3,6 +3,7 @@ use crate::Cell;
 use crate::Field;
 use crate::fields::field_set;
 use crate::fields::mark_set;
+use crate::fields::missing_set;
 use crate::fields::place_set;
 use blocks::Ring;
 use blocks::Store;
@@ -140,6 +141,7 @@ pub fn cell_set(pod: Pod, cell: Cell, n: u64) -> Pod
         Cell::Initialised => initialised_set(pod, n == 1),
         Cell::Field(field) => fields_set(pod, field, n),
         Cell::Written(id) => with_params(pod, mark_set(params, id, n == 1)),
+        Cell::Missing(k) => with_params(pod, missing_set(params, k, n as u8)),
         Cell::Error => with_words(pod, error_set(words, n == 1)),
         Cell::Place(table) => with_words(pod, places_set(words, table, n as u8)),
         Cell::Oldest(store) => oldest_set(pod, store, n as usize),

@@ -9,7 +9,7 @@ ghost use mathlib.Core.Path.{_≡_};
 ghost use Prim.Native.Nat.{_≤_};
 ghost use Rattle.tables.specs.Tables.{withReadPlace};
 ghost use Rattle.lab_sets.specs.Ranges.{storeMost, fieldMost};
-ghost use Rattle.lab_sets.specs.Setting.{fieldSet, valueSet, markSet};
+ghost use Rattle.lab_sets.specs.Setting.{fieldSet, valueSet, markSet, missingSet};
 
 fn limit_set(fields: Fields, store: Store, n: u64) -> Fields
     requires { ⌜ n ≤ storeMost store ⌝ }
@@ -98,6 +98,19 @@ pub fn mark_set(params: Params, id: u8, on: bool) -> Params
     let i = (id - 1) as usize;
     let mut next = params;
     next.written[i] = on;
+    next
+}
+
+// A place of the kept list, whatever the marks say.
+pub fn missing_set(params: Params, k: u8, n: u8) -> Params
+    ensures { λ r. ⌜ r ≡ missingSet k n params ⌝ }
+{
+    if k >= 8 {
+        return params;
+    }
+    let i = k as usize;
+    let mut next = params;
+    next.missing[i] = n;
     next
 }
 

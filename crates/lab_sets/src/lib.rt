@@ -22,11 +22,12 @@ pub enum Field {
     Poll,
 }
 
-// A part of the state that a number from 0 on says.
+// A part of the state that a number from 0 on says. A mark has its id, a missing id its place in the kept list.
 pub enum Cell {
     Initialised,
     Field(Field),
     Written(u8),
+    Missing(u8),
     Error,
     Place(Table),
     Oldest(Store),
