@@ -13,7 +13,7 @@ use borrow.Author.Tests.{eqb-true, eq-eqb}
 use Rattle.items.specs.Characters.{space}
 use Rattle.rows.proofs.Bool.{and-left, and-right, split, never}
 use Rattle.lab_names.specs.declared.Part.the-variants.{Unknown}
-use Rattle.lab_names.specs.Names.{Name, padded, noName, stateNames, writtenNames, portNames, valueNames, otherNames, names, sameText, partIn}
+use Rattle.lab_names.specs.Names.{Name, padded, noName, stateNames, writtenNames, missingNames, portNames, valueNames, otherNames, names, sameText, partIn}
 
 drop-replicate : (k n a : ℕ) → drop k (replicate n a) ≡ replicate (n - k) a
 drop-replicate zero n a = let e : n ≡ n - 0 = omega arith in ap (λ (k : ℕ). replicate k a) e
@@ -63,6 +63,6 @@ pub part-end : (t : List ℕ) (ns : List Name) (i : ℕ) → length ns ≤ i →
 unfolding partIn
 part-end t ns i h = rw (drop-of-length-le ns {i = i} h)
 
-pub names-length : length names ≡ 55
-unfolding names stateNames writtenNames portNames valueNames otherNames
+pub names-length : length names ≡ 63
+unfolding names stateNames writtenNames missingNames portNames valueNames otherNames
 names-length = refl

@@ -11,7 +11,7 @@ use Rattle.items.specs.Characters.{space}
 use Rattle.blocks.specs.declared.Store.the-variants.{Priority, Ordinary}
 use Rattle.orders.specs.declared.Table.the-variants.{Five, Six, Seven}
 use Rattle.lab_sets.specs.declared.Field.the-variants.{Mode, Flags, Seconds, Milliseconds, Limit, Remaining, Poll}
-use Rattle.lab_sets.specs.declared.Cell.the-variants.{Initialised, Field as field, Written, Error, Place, Oldest, Waiting, Gathered, Timeouts, Out, Outtimeouts}
+use Rattle.lab_sets.specs.declared.Cell.the-variants.{Initialised, Field as field, Written, Missing, Error, Place, Oldest, Waiting, Gathered, Timeouts, Out, Outtimeouts}
 use Rattle.lab_sets.specs.declared.Thing.the-variants.{Room, Store as store, Table as table}
 use Rattle.lab_names.specs.declared.Part.{Part}
 use Rattle.lab_names.specs.declared.Part.the-variants.{Unknown, Cell as cell, Value, Exchange, Address, Transfer, Thing as thing}
@@ -69,6 +69,19 @@ writtenNames =
     ∷ named "X written12" (cell (Written 12))
     ∷ []
 
+-- the places of the kept list of missing ids
+unfoldable pub missingNames : List Name
+missingNames =
+    named "X missing0" (cell (Missing 0))
+    ∷ named "X missing1" (cell (Missing 1))
+    ∷ named "X missing2" (cell (Missing 2))
+    ∷ named "X missing3" (cell (Missing 3))
+    ∷ named "X missing4" (cell (Missing 4))
+    ∷ named "X missing5" (cell (Missing 5))
+    ∷ named "X missing6" (cell (Missing 6))
+    ∷ named "X missing7" (cell (Missing 7))
+    ∷ []
+
 -- the table words, the stores and the pipe
 unfoldable pub portNames : List Name
 portNames =
@@ -118,7 +131,7 @@ otherNames =
     ∷ []
 
 unfoldable pub names : List Name
-names = stateNames ++ (writtenNames ++ (portNames ++ (valueNames ++ otherNames)))
+names = stateNames ++ (writtenNames ++ (missingNames ++ (portNames ++ (valueNames ++ otherNames))))
 
 -- the texts of names, one behind the other
 unfoldable pub textsOf : List Name → List ℕ

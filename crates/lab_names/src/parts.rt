@@ -31,7 +31,7 @@ fn field_at(i: usize) -> Field
 // The words, the stores and the pipe.
 fn port_at(i: usize) -> Cell
     requires { ⌜ i < 12 ⌝ }
-    ensures { λ r. ⌜ Part.Cell r ≡ getD names (i + 22) noName .part ⌝ }
+    ensures { λ r. ⌜ Part.Cell r ≡ getD names (i + 30) noName .part ⌝ }
 {
     match i {
         0 => Cell::Error,
@@ -52,7 +52,7 @@ fn port_at(i: usize) -> Cell
 // The lent things.
 fn thing_at(i: usize) -> Thing
     requires { ⌜ i < 6 ⌝ }
-    ensures { λ r. ⌜ Part.Thing r ≡ getD names (i + 49) noName .part ⌝ }
+    ensures { λ r. ⌜ Part.Thing r ≡ getD names (i + 57) noName .part ⌝ }
 {
     match i {
         0 => Thing::Room,
@@ -64,20 +64,21 @@ fn thing_at(i: usize) -> Thing
     }
 }
 
-// All of them; the marks and the parameters have their ids.
+// All of them; the marks and the parameters have their ids, the missing ones their places in the kept list.
 pub fn part_at(i: usize) -> Part
-    requires { ⌜ i < 55 ⌝ }
+    requires { ⌜ i < 63 ⌝ }
     ensures { λ r. ⌜ r ≡ getD names i noName .part ⌝ }
 {
     match i {
         0 => Part::Cell(Cell::Initialised),
         1..=9 => Part::Cell(Cell::Field(field_at(i - 1))),
         10..=21 => Part::Cell(Cell::Written((i - 9) as u8)),
-        22..=33 => Part::Cell(port_at(i - 22)),
-        34..=45 => Part::Value((i - 33) as u8),
-        46 => Part::Exchange,
-        47 => Part::Address,
-        48 => Part::Transfer,
-        _ => Part::Thing(thing_at(i - 49)),
+        22..=29 => Part::Cell(Cell::Missing((i - 22) as u8)),
+        30..=41 => Part::Cell(port_at(i - 30)),
+        42..=53 => Part::Value((i - 41) as u8),
+        54 => Part::Exchange,
+        55 => Part::Address,
+        56 => Part::Transfer,
+        _ => Part::Thing(thing_at(i - 57)),
     }
 }

@@ -2,7 +2,7 @@
 ghost use mathlib.Core.Path.{_≡_};
 ghost use Rattle.lab_names.specs.Names.{names, textsOf};
 
-const TEXTS: [u8; 770] = *b"\
+const TEXTS: [u8; 882] = *b"\
     X initialised \
     X mode        \
     X flags       \
@@ -25,6 +25,14 @@ const TEXTS: [u8; 770] = *b"\
     X written10   \
     X written11   \
     X written12   \
+    X missing0    \
+    X missing1    \
+    X missing2    \
+    X missing3    \
+    X missing4    \
+    X missing5    \
+    X missing6    \
+    X missing7    \
     X error       \
     X place5      \
     X place6      \
@@ -59,7 +67,7 @@ const TEXTS: [u8; 770] = *b"\
     L 6           \
     L 7           ";
 
-pub fn texts() -> [u8; 770]
+pub fn texts() -> [u8; 882]
     ensures { λ r. ⌜ r ≡ textsOf names ⌝ }
 {
     TEXTS

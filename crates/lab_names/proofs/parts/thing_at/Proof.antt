@@ -1,11 +1,11 @@
 -- `lab_names::parts::thing_at` meets its contract. Assumes nothing.
-use Rattle.lab_names.specs.Names.{names, stateNames, writtenNames, portNames, valueNames, otherNames}
+use Rattle.lab_names.specs.Names.{names, stateNames, writtenNames, missingNames, portNames, valueNames, otherNames}
 use Rattle.lab_names.proofs.Runs.{last-is}
 use Rattle.lab_names.proofs.parts.thing_at.Statement.{statement}
 use Rattle.lab_names.proofs.parts.thing_at.Tie as tie
 
 pub thing-at-spec : {M : Type 1} → statement M
-unfolding names stateNames writtenNames portNames valueNames otherNames
+unfolding names stateNames writtenNames missingNames portNames valueNames otherNames
 thing-at-spec =
     tie.close
     (tie.spec
