@@ -59,6 +59,7 @@ pub fn cell_most(cell: Cell) -> u64
         Cell::Initialised => 1,
         Cell::Field(field) => field_most(field),
         Cell::Written(_) => 1,
+        Cell::Missing(_) => 0xFF,
         Cell::Error => 1,
         Cell::Place(_) => 0xFF,
         Cell::Oldest(_) => 0xFF,
