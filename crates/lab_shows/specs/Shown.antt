@@ -103,15 +103,18 @@ unfoldable pub spelledWords : List ℕ → List ℕ
 spelledWords [] = []
 spelledWords (w ∷ ws) = space ∷ (wordDigits w ++ spelledWords ws)
 
--- behind the rest, of request No. 3's half: how many bytes are in hand, output timeouts, and the CRC of the bytes in hand, of 8 at most; and the
--- line's end
+-- behind the rest, of request No. 3's half: how many bytes are in hand, output timeouts, and the CRC of the bytes in hand, of 8 at most
 abbrev pub outNumbers : Pod → List ℕ
 outNumbers p = p .pipe .output .hand ∷ p .pipe .output .timeouts ∷ []
 
 unfoldable pub shownOutput : Pod → List ℕ
-shownOutput p = spelled (naturals (outNumbers p)) ++ (spelledWords (crcOf (heldOut (p .pipe .output)) ∷ []) ++ (newline ∷ []))
+shownOutput p = spelled (naturals (outNumbers p)) ++ spelledWords (crcOf (heldOut (p .pipe .output)) ∷ [])
+
+-- behind these, of request No. 5: the eight places of the kept list; and the line's end
+unfoldable pub shownList : Pod → List ℕ
+shownList p = spelled (naturals (p .params .missing)) ++ (newline ∷ [])
 
 -- "`V` and these, each after one space"
 unfoldable pub shownText : Pod → Lent → List ℕ
 shownText p l =
-    letterV ∷ (spelled (frontNumbers p ++ backNumbers p) ++ (spelledWords (shownChecks p l) ++ shownOutput p))
+    letterV ∷ (spelled (frontNumbers p ++ backNumbers p) ++ (spelledWords (shownChecks p l) ++ (shownOutput p ++ shownList p)))

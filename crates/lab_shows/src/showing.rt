@@ -8,6 +8,7 @@ use crate::parts::last_numbers;
 use crate::parts::marks;
 use crate::parts::port_numbers;
 use crate::runs::put_address;
+use crate::runs::put_bytes;
 use crate::runs::put_values;
 use crate::runs::put_words;
 use crc::crc_of;
@@ -20,7 +21,7 @@ ghost use lib.ListN.{length};
 ghost use Rattle.tables.specs.Tables.{three};
 ghost use Rattle.rules.specs.State.{Lent};
 ghost use Rattle.decimals.specs.Printing.{spelled, Written};
-ghost use Rattle.lab_shows.specs.Shown.{frontNumbers, backNumbers, shownChecks, shownOutput, shownText, lentOf};
+ghost use Rattle.lab_shows.specs.Shown.{frontNumbers, backNumbers, shownChecks, shownOutput, shownList, shownText, lentOf};
 
 // The numbers of the state up to the marks of the parameters ..
 fn put_front(out: &mut [u8], at: usize, pod: Pod) -> usize
@@ -51,17 +52,27 @@ fn put_back(out: &mut [u8], at: usize, pod: Pod) -> usize
     put_run(out, b, &last)
 }
 
-// .. and the output half of the pipe, behind the checks, with the line's end.
+// .. and the output half of the pipe, behind the checks ..
 fn put_output(out: &mut [u8], at: usize, pod: Pod) -> usize
-    requires { ⌜ at + 48 ≤ length (now out) ⌝ }
-    ensures { λ r. ⌜ Written (shownOutput pod) 48 at r (now (out .entry)) (now (out .exit)) ⌝ }
+    requires { ⌜ at + 47 ≤ length (now out) ⌝ }
+    ensures { λ r. ⌜ Written (shownOutput pod) 47 at r (now (out .entry)) (now (out .exit)) ⌝ }
 {
     let output = pod.pipe.output;
     let check = [hand_crc(output)];
     let numbers = [output.hand as u64, output.timeouts as u64];
     let a = put_run(out, at, &numbers);
-    let b = put_words(out, a, &check);
-    append(out, b, &[b'\n'])
+    put_words(out, a, &check)
+}
+
+// .. and the kept list, with the line's end.
+fn put_list(out: &mut [u8], at: usize, pod: Pod) -> usize
+    requires { ⌜ at + 33 ≤ length (now out) ⌝ }
+    ensures { λ r. ⌜ Written (shownList pod) 33 at r (now (out .entry)) (now (out .exit)) ⌝ }
+{
+    let params = pod.params;
+    let list = params.missing;
+    let a = put_bytes(out, at, list);
+    append(out, a, &[b'\n'])
 }
 
 fn all_checks(
@@ -104,13 +115,14 @@ pub fn show(
     at: usize,
 ) -> usize
     requires { ⌜ (length (now five) ≤ 128) × (length (now six) ≤ 128) × (length (now seven) ≤ 128) ⌝ }
-    requires { ⌜ at + 1168 ≤ length (now out) ⌝ }
-    ensures { λ r. ⌜ Written (shownText pod (lentOf (now (priority .entry)) (now (ordinary .entry)) (now (five .entry)) (now (six .entry)) (now (seven .entry)) (now (load .entry)))) 1168 at r (now (out .entry)) (now (out .exit)) ⌝ }
+    requires { ⌜ at + 1200 ≤ length (now out) ⌝ }
+    ensures { λ r. ⌜ Written (shownText pod (lentOf (now (priority .entry)) (now (ordinary .entry)) (now (five .entry)) (now (six .entry)) (now (seven .entry)) (now (load .entry)))) 1200 at r (now (out .entry)) (now (out .exit)) ⌝ }
 {
     let checks = all_checks(pod, priority, ordinary, five, six, seven, load);
     let first = append(out, at, &[b'V']);
     let front = put_front(out, first, pod);
     let back = put_back(out, front, pod);
     let last = put_words(out, back, &checks);
-    put_output(out, last, pod)
+    let behind = put_output(out, last, pod);
+    put_list(out, behind, pod)
 }

@@ -5,18 +5,16 @@ use mathlib.Core.Path.{ap}
 use mathlib.Core.List.{[], _∷_}
 use Prim.Native.Nat.{ℕ}
 use Rattle.lab_shows.specs.Shown.{spelledWords, shownOutput}
-use Rattle.decimals.proofs.Behind.{appended, both, renamed}
+use Rattle.decimals.proofs.Behind.{both, renamed}
 use Rattle.lab_shows.proofs.showing.put_output.Statement.{statement}
 use Rattle.lab_shows.proofs.showing.put_output.Tie as tie
 
 returns : tie.Need-returns
 unfolding shownOutput
 returns c =
-    let check = c .before .before .before .before .before .before .before .before .before .before .before .before .before .before .before .before .before .hand-crc in
-    let e = c .before .before .append in
-    both _ _ 42 6 _ _ _ _ _ _ (c .before .before .before .before .before .before .before .before .before .before .before .before .put-run .ensures)
-    (both _ _ 5 1 _ _ _ _ _ _ (renamed _ _ _ 5 _ _ _ _ (ap (λ (n : ℕ). spelledWords (n ∷ [])) (check .ensures)) (omega arith) (c .before .before .before .before .before .before .before .put-words .ensures))
-    (appended (10 ∷ []) 1 _ _ _ _ (e .ensures .0) (e .ensures .1) (omega arith)))
+    let check = c .before .before .before .before .before .before .before .before .before .before .before .before .hand-crc in
+    both _ _ 42 5 _ _ _ _ _ _ (c .before .before .before .before .before .before .before .put-run .ensures)
+    (renamed _ _ _ 5 _ _ _ _ (ap (λ (n : ℕ). spelledWords (n ∷ [])) (check .ensures)) (omega arith) (c .before .before .put-words .ensures))
 
 pub put-output-spec : {M : Type 1} → statement M
 put-output-spec =
@@ -25,8 +23,6 @@ put-output-spec =
     (λ c κs. search needs)
     (λ c. search needs)
     (λ c. search needs)
-    (λ c. search needs)
-    (λ c κs. search needs)
     (λ c. search needs)
     (λ c κs. search needs)
     (λ c. search needs)
