@@ -20,7 +20,7 @@ use Rattle.lab_sets.specs.declared.Change.the-variants.{Nothing, Cell, Value, E
 use Rattle.lab_lines.specs.Asked.{changeIn}
 use Rattle.decimals.specs.Printing.{spelled, naturals}
 use Rattle.decimals.proofs.Spell.{spelled-inked}
-use Rattle.lab_shows.specs.Shown.{frontNumbers, backNumbers, spelledWords, shownChecks, outNumbers, shownOutput, shownText}
+use Rattle.lab_shows.specs.Shown.{frontNumbers, backNumbers, spelledWords, shownChecks, outNumbers, shownOutput, shownList, shownText}
 use Rattle.lab_calls.specs.Own.{isShow, letterOf, Leaves, ownOf}
 
 words-inked : (ws : List ℕ) → Inked (spelledWords ws)
@@ -29,18 +29,19 @@ words-inked [] = tt
 words-inked (w ∷ ws) = (omega arith, inked-both (wordDigits w) (spelledWords ws) (word-inked w) (words-inked ws))
 
 shown-one : (p : Pod) (l : Lent) → suc (before (shownText p l)) ≡ length (shownText p l)
-unfolding shownText shownOutput
+unfolding shownText shownOutput shownList
 shown-one p l =
     let n = spelled (frontNumbers p ++ backNumbers p) in
     let w = spelledWords (shownChecks p l) in
-    let o = spelled (naturals (outNumbers p)) in
-    let k = spelledWords (crcOf (heldOut (p .pipe .output)) ∷ []) in
+    let o = spelled (naturals (outNumbers p)) ++ spelledWords (crcOf (heldOut (p .pipe .output)) ∷ []) in
+    let k = spelled (naturals (p .params .missing)) in
     let e : 86 ∷ (n ++ (w ++ (o ++ (k ++ (10 ∷ []))))) ≡ (86 ∷ (n ++ (w ++ (o ++ k)))) ++ (10 ∷ []) =
     ap (λ (t : List ℕ). 86 ∷ t)
     (ap (λ (t : List ℕ). n ++ (w ++ t)) (sym (append-assoc o k (10 ∷ [])))
     ∙ ap (λ (t : List ℕ). n ++ t) (sym (append-assoc w (o ++ k) (10 ∷ [])))
     ∙ sym (append-assoc n (w ++ (o ++ k)) (10 ∷ []))) in
-    let behind = inked-both o k (spelled-inked (naturals (outNumbers p))) (words-inked _) in
+    let output = inked-both (spelled (naturals (outNumbers p))) _ (spelled-inked (naturals (outNumbers p))) (words-inked _) in
+    let behind = inked-both o k output (spelled-inked (naturals (p .params .missing))) in
     let inked = inked-both n (w ++ (o ++ k)) (spelled-inked (frontNumbers p ++ backNumbers p)) (inked-both w (o ++ k) (words-inked (shownChecks p l)) behind) in
     ap (λ (t : List ℕ). suc (before t)) e ∙ ended (86 ∷ (n ++ (w ++ (o ++ k)))) (omega arith, inked) ∙ sym (ap length e)
 

@@ -95,9 +95,9 @@ shownIn m = lentIn (lentAt rightSizes m)
 abbrev pub withLoad : List ℕ → Memory → Memory
 withLoad l m = memory (m .room) (m .priority) (m .ordinary) (m .five) (m .six) (m .seven) l
 
--- and so a line of its own is answered; no line is longer than 1,168 characters
+-- and so a line of its own is answered; no line is longer than 1,200 characters
 pub record OwnAnswered (t : List ℕ) (p : Pod) (s : Sizes) (l : Lent) (r : Noted) (load′ : List ℕ) (at : ℕ) (o o′ : List ℕ) : Type 0 where
   pub pod : r .pod ≡ ownOf t p s l .pod
   pub sizes : r .sizes ≡ ownOf t p s l .sizes
   pub load : load′ ≡ ownOf t p s l .load
-  pub printed : Written (ownOf t p s l .text) 1168 at (r .at) o o′
+  pub printed : Written (ownOf t p s l .text) 1200 at (r .at) o o′

@@ -106,8 +106,8 @@ pub fn asked(
     at: usize,
 ) -> Noted
     requires { ⌜ inRange change ≡ true ⌝ }
-    requires { ⌜ at + 1168 ≤ length (now out) ⌝ }
-    ensures { λ r. ⌜ (r .pod ≡ partSet change pod) × (r .sizes ≡ sizesSet change sizes) × (now (load .exit) ≡ loadSet change (now (load .entry))) × Written (bareLine (letterOf change)) 1168 at (r .at) (now (out .entry)) (now (out .exit)) ⌝ }
+    requires { ⌜ at + 1200 ≤ length (now out) ⌝ }
+    ensures { λ r. ⌜ (r .pod ≡ partSet change pod) × (r .sizes ≡ sizesSet change sizes) × (now (load .exit) ≡ loadSet change (now (load .entry))) × Written (bareLine (letterOf change)) 1200 at (r .at) (now (out .entry)) (now (out .exit)) ⌝ }
 {
     let changed = set(change, pod, load);
     let next = changed.pod;

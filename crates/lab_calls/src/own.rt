@@ -47,7 +47,7 @@ pub fn own_line(
     at: usize,
 ) -> Noted
     requires { ⌜ (4096 ≤ length (now priority)) × (32768 ≤ length (now ordinary)) × (64 ≤ length (now five)) × (128 ≤ length (now six)) × (64 ≤ length (now seven)) ⌝ }
-    requires { ⌜ at + 1168 ≤ length (now out) ⌝ }
+    requires { ⌜ at + 1200 ≤ length (now out) ⌝ }
     ensures { λ r. ⌜ OwnAnswered (now (text .entry)) pod sizes (shownIn (memory [] (now (priority .entry)) (now (ordinary .entry)) (now (five .entry)) (now (six .entry)) (now (seven .entry)) (now (load .entry)))) r (now (load .exit)) at (now (out .entry)) (now (out .exit)) ⌝ }
 {
     if is_show(text) {

@@ -78,4 +78,4 @@ pub record Fine (s : Standing) (have : ℕ) : Type 0 where
 
 -- no line is left in the piece, or the output has no room for the longest one
 abbrev pub Spent : Standing → ℕ → Type 0
-Spent s have = (ltb (s .cursor .from) have && leb (s .between .at) 64368) ≡ false
+Spent s have = (ltb (s .cursor .from) have && leb (s .between .at) 64336) ≡ false

@@ -16,8 +16,8 @@ ghost use Rattle.line_calls.specs.Memory.{memory};
 ghost use Rattle.lines.specs.Turns.{Turns};
 ghost use Rattle.line_answers.specs.Turns.{Within, CallAnswered, TextAnswered, AnswersText, standing, Fine, Spent};
 
-// The longest line of output has 1,168 characters: with fewer left, what is gathered is written first.
-const ENOUGH: usize = 64368;
+// The longest line of output has 1,200 characters: with fewer left, what is gathered is written first.
+const ENOUGH: usize = 64336;
 
 // A text's call and its answer.
 fn called(
@@ -86,7 +86,7 @@ pub fn answered(
 ) -> Between
     requires { ⌜ length (now text) ≤ 196606 ⌝ }
     requires { ⌜ Within (between .sizes) ⌝ }
-    requires { ⌜ between .at + 1168 ≤ 65536 ⌝ }
+    requires { ⌜ between .at + 1200 ≤ 65536 ⌝ }
     ensures { λ r. ⌜ TextAnswered program (now (text .entry)) between r (memory (now (room .entry)) (now (priority .entry)) (now (ordinary .entry)) (now (five .entry)) (now (six .entry)) (now (seven .entry)) (now (load .entry))) (memory (now (room .exit)) (now (priority .exit)) (now (ordinary .exit)) (now (five .exit)) (now (six .exit)) (now (seven .exit)) (now (load .exit))) (now (out .entry)) (now (out .exit)) ⌝ }
 {
     if own(program, text) {

@@ -30,11 +30,11 @@ abbrev μ-loop : tie.MeasureT-loop
     length piece - cursor .from
 
 -- the two tests of the loop
-inside : (n k : ℕ) (at : ℕ) → (ltb n k && leb at 64368) ≡ true → n < k
-inside n k at e = ltb-true n k (and-left (ltb n k) (leb at 64368) e)
+inside : (n k : ℕ) (at : ℕ) → (ltb n k && leb at 64336) ≡ true → n < k
+inside n k at e = ltb-true n k (and-left (ltb n k) (leb at 64336) e)
 
-enough : (n k : ℕ) (at : ℕ) → (ltb n k && leb at 64368) ≡ true → at + 1168 ≤ 65536
-enough n k at e = omega (arith, leb-true at 64368 (and-right (ltb n k) (leb at 64368) e))
+enough : (n k : ℕ) (at : ℕ) → (ltb n k && leb at 64336) ≡ true → at + 1200 ≤ 65536
+enough n k at e = omega (arith, leb-true at 64336 (and-right (ltb n k) (leb at 64336) e))
 
 loop-holds : tie.Need-loop-holds Inv-loop μ-loop
 loop-holds c = (start _, c .before .before .before .pre .0)
