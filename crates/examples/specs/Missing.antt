@@ -245,8 +245,8 @@ listLines awake =
     ∷ line (refusalsIn (final awake (writes 1 0 0 [] .call ∷ [])) judges) judgedAwake
     ∷ line (refusalsIn (takenBack (final awake (writes 1 0 0 [] .call ∷ []))) judges) (replicate 13 3)
     ∷ line
-      (refusalsIn (bent (unmarked (2 ∷ 1 ∷ 3 ∷ 6 ∷ 7 ∷ 0 ∷ 0 ∷ 0 ∷ [])))
-      (tries (asked.Initialise freshFields) 0 [] .call ∷ tries asked.Status 0 [] .call ∷ writes 1 0 0 [] .call ∷ [])) (3 ∷ 3 ∷ 3 ∷ [])
+    (refusalsIn (bent (unmarked (2 ∷ 1 ∷ 3 ∷ 6 ∷ 7 ∷ 0 ∷ 0 ∷ 0 ∷ [])))
+    (tries (asked.Initialise freshFields) 0 [] .call ∷ tries asked.Status 0 [] .call ∷ writes 1 0 0 [] .call ∷ [])) (3 ∷ 3 ∷ 3 ∷ [])
     ∷ []
 
 pub record Missing : Type 0 where
