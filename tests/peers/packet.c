@@ -1,6 +1,6 @@
 /* ./packet N WAITING: the packet 96 01 with its CRC, answered by hand-written C, N times.
  *
- * The same job as the packet call: room, sizes and every bound of the state are judged, the packet is read, an open
+ * The same job as the packet call: room, sizes and the bounds of the state that document 01 lists are judged, the packet is read, an open
  * exchange is closed, the rules are asked, and the oldest block goes into the room with its CRC. The state is changed
  * where it stands. The CRC is the one by slicing, which is the fastest here that C has without special instructions. */
 #include <stdbool.h>
