@@ -1,10 +1,14 @@
 -- What a command word asks for: the decision list, case by case, and its numbers.
 use mathlib.Core.Path.{_≡_, refl, sym, ap, _∙_}
 use mathlib.Core.Bool.{true, false, not, cond}
+use borrow.Author.Tests.{ne-eqb}
+use native.Mathlib.Omega.{arith}
 use mathlib.Core.List.{List}
-use Prim.Native.Nat.{ℕ}
+use Prim.Native.Nat.{ℕ, _<_}
 use lib.Dec.{eqb}
 use lib.ListN.{length, getD}
+use Rattle.rows.proofs.Bool.{and-false}
+use Rattle.orders.proofs.Lengths.{allowed-has}
 use Rattle.orders.specs.declared.Table.{Table}
 use Rattle.orders.specs.declared.Table.the-variants.{Five, Six, Seven}
 use Rattle.orders.specs.declared.Parts.{Parts}
@@ -16,6 +20,11 @@ use Rattle.orders.specs.Command.{writes, lengthAllowed, tableAsked, orde
 pub even-other : (p : Parts) → not (p .odd) ≡ true → orderOf p ≡ Other
 unfolding orderOf
 even-other p e = rw e
+
+-- N 4 to 64 is no other N
+other-length : (p : Parts) (c n : ℕ) → n < 4 → lengthAllowed (p .n) ≡ true → writes p c n ≡ false
+other-length p c n h e =
+    rw (ne-eqb (p .n) n (λ z. let least = allowed-has (p .n) e .least in omega arith), and-false (eqb (p .command) c), and-false (not (p .reads)))
 
 module _ (p : Parts) (odd : not (p .odd) ≡ false) where
   -- command 0 writing, N 0
@@ -33,11 +42,11 @@ module _ (p : Parts) (odd : not (p .odd) ≡ false) where
   unfolding orderOf
   is-next a b d = rw (odd, a, b, d)
 
-  -- any other with N 4 to 64: a table's command or none
-  pub is-table : writes p 0 0 ≡ false → writes p 0 1 ≡ false → writes p 1 1 ≡ false → lengthAllowed (p .n) ≡ true
-      → orderOf p ≡ tableAsked p
+  -- N 4 to 64: a table's command or none, since no other has such an N
+  pub is-table : lengthAllowed (p .n) ≡ true → orderOf p ≡ tableAsked p
   unfolding orderOf
-  is-table a b d e = rw (odd, a, b, d, e)
+  is-table e =
+      rw (odd, other-length p 0 0 (omega arith) e, other-length p 0 1 (omega arith) e, other-length p 1 1 (omega arith) e, e)
 
   -- all else
   pub is-other : writes p 0 0 ≡ false → writes p 0 1 ≡ false → writes p 1 1 ≡ false → lengthAllowed (p .n) ≡ false

@@ -58,11 +58,15 @@ pub fn allowed(n: u16) -> bool
     (4 <= n) & (n <= 64)
 }
 
+// Loads and reads first, since they come most; no other command has their N.
 fn order(p: Parts) -> Order
     ensures { λ r. ⌜ r ≡ orderOf p ⌝ }
 {
     if !p.odd {
         return Order::Other;
+    }
+    if allowed(p.n) {
+        return table_order(p);
     }
     if writes(p, 0, 0) {
         return Order::Stop;
@@ -72,9 +76,6 @@ fn order(p: Parts) -> Order
     }
     if writes(p, 1, 1) {
         return Order::Next;
-    }
-    if allowed(p.n) {
-        return table_order(p);
     }
     Order::Other
 }

@@ -15,7 +15,7 @@ use Rattle.rows.proofs.Bool.{split, and-left, and-right, and-both, every-at}
 use Rattle.params.specs.declared.Params.{Params}
 use Rattle.params.specs.Rules.{marked, filter, missingIds, missingOf, isId, sameList, listKept, struck, stored}
 use Rattle.params.proofs.Laws.{id-within, stored-at}
-use Rattle.params.specs.Packed.{bitOf, lowFirst, bytes, index, askedMarks, listBy, listFor}
+use Rattle.params.specs.Packed.{bitOf, lowFirst, bytes, places, index, askedMarks, listBy, listFor}
 
 -- ---- the same list
 
@@ -79,11 +79,6 @@ by-long a b c d e = eqb-true (length (listBy a b c d e)) 8 (all-at (λ a b c d e
 
 -- ---- as one number
 
--- the places of a list from the i-th on, one by one
-abbrev pub places : List ℕ → ℕ → ℕ → List ℕ
-places l i zero = []
-places l i (suc n) = getD l i 0 ∷ places l (suc i) n
-
 spelt : (l : List ℕ) (i n : ℕ) → length l ≡ i + n → drop i l ≡ places l i n
 spelt l i zero e = let short : length l ≤ i = omega arith in drop-of-length-le l short
 spelt l i (suc n) e = rw (drop-cons l i 0 (omega arith), spelt l (suc i) n (omega arith))
@@ -136,6 +131,11 @@ same-number (x ∷ a) [] e f g = absurd (let no : ⊥ = omega (arith, e) in no)
 same-number (x ∷ a) (y ∷ b) e f g =
     two-parts x y (lowFirst a) (lowFirst b) (ltb-true x 256 (and-left (ltb x 256) (bytes a) f)) (ltb-true y 256 (and-left (ltb y 256) (bytes b) g))
     ∙ ap (λ t. eqb x y && t) (same-number a b (omega (arith, e)) (and-right (ltb x 256) (bytes a) f) (and-right (ltb y 256) (bytes b) g))
+
+-- the number of the right list, by its halves
+pub right-number : (a b c d e : Bool)
+    → lowFirst (places (listFor (index a b c d e)) 0 4) + 0x1_0000_0000 * lowFirst (places (listFor (index a b c d e)) 4 4) ≡ lowFirst (listFor (index a b c d e))
+right-number a b c d e = halves-number (listFor (index a b c d e)) (ap length (for-marks a b c d e) ∙ by-long a b c d e)
 
 -- so the test by numbers is the rule's
 pub judged : (p : Params) → length (p .written) ≡ 12 → length (p .missing) ≡ 8 → bytes (p .missing) ≡ true

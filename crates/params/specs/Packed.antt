@@ -1,7 +1,7 @@
 -- The code's way to judge the kept list: as one number, against that of the right list. No rule is said by it: the rule is `listKept`
 -- (Rules.antt), and a reader of the rules may skip this file.
 -- Assumes nothing.
-use Prim.Native.Nat.{ℕ, _+_, _*_, _/_, _%_}
+use Prim.Native.Nat.{ℕ, zero, suc, _+_, _*_, _/_, _%_}
 use mathlib.Core.Bool.{Bool, true, false, not, _&&_, cond}
 use mathlib.Core.List.{List, [], _∷_}
 use lib.Dec.{eqb, ltb}
@@ -16,6 +16,11 @@ bitOf b = cond b 1 0
 unfoldable pub lowFirst : List ℕ → ℕ
 lowFirst [] = 0
 lowFirst (x ∷ l) = x + 256 * lowFirst l
+
+-- n places of a list from the i-th on, one by one
+abbrev pub places : List ℕ → ℕ → ℕ → List ℕ
+places l i zero = []
+places l i (suc n) = getD l i 0 ∷ places l (suc i) n
 
 -- each number is a byte's
 unfoldable pub bytes : List ℕ → Bool

@@ -5,7 +5,7 @@ ghost use mathlib.Core.Bool.{true};
 ghost use mathlib.Core.List.{[], _∷_};
 ghost use Prim.Native.Nat.{_<_, _≤_};
 ghost use Rattle.params.specs.Rules.{struck, listKept};
-ghost use Rattle.params.specs.Packed.{bitOf, lowFirst, bytes, askedMarks, listFor};
+ghost use Rattle.params.specs.Packed.{bitOf, lowFirst, bytes, places, askedMarks, listFor};
 
 // A list without an id: those behind it move up.
 pub fn struck(list: [u8; 8], id: u8) -> [u8; 8]
@@ -50,13 +50,14 @@ fn marks(w: [bool; 12]) -> u8
     bit(w[0]) + 2 * bit(w[1]) + 4 * bit(w[2]) + 8 * bit(w[5]) + 16 * bit(w[6])
 }
 
-// The right list as such a number, by those marks: the compiler makes one look into a table of it.
-fn list_for(k: u8) -> u64
+// The first four places of the right list as such a number, by those marks: the compiler makes one look into a table of it. It
+// does so of 32 bits on a small processor too.
+fn list_for(k: u8) -> u32
     requires { ⌜ k < 32 ⌝ }
-    ensures { λ r. ⌜ r ≡ lowFirst (listFor k) ⌝ }
+    ensures { λ r. ⌜ r ≡ lowFirst (places (listFor k) 0 4) ⌝ }
 {
     match k {
-        0 => 0x07_0603_0201,
+        0 => 0x0603_0201,
         1 => 0x0706_0302,
         2 => 0x0706_0301,
         3 => 0x07_0603,
@@ -91,11 +92,23 @@ fn list_for(k: u8) -> u64
     }
 }
 
+// And the last four: only where none is written is there a fifth id.
+fn rest_for(k: u8) -> u32
+    requires { ⌜ k < 32 ⌝ }
+    ensures { λ r. ⌜ r ≡ lowFirst (places (listFor k) 4 4) ⌝ }
+{
+    match k {
+        0 => 7,
+        _ => 0,
+    }
+}
+
 // Whether the kept list is the one that the marks decide.
 pub fn listed(p: Params) -> bool
     ensures { λ r. ⌜ r ≡ listKept p ⌝ }
 {
     let written = p.written;
     let list = p.missing;
-    packed(list) == list_for(marks(written))
+    let k = marks(written);
+    packed(list) == list_for(k) as u64 + 0x1_0000_0000 * rest_for(k) as u64
 }
