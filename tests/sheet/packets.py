@@ -5,7 +5,7 @@ import model
 import sessions
 from ports.blocks import CAPACITY
 from ports.packets import COMMANDS, crc, sealed
-from ports.params import ROWS
+from ports.params import ASKED, ROWS
 
 from .desk import checks
 from .pages import number, numbers, plain
@@ -146,7 +146,7 @@ class Packets:
     def check_answers(self):
         """The bounds of what an answer carries: those of the packets, of the stores and of the parameters."""
         same = {row[1]: row.cells[4:] for row in self.layout("0x90")}
-        meant = {"mode": same["mode"], "flags": same["flags"], "request": ("0", "0"), "missing ids": ("0", str(max(ROWS))),
+        meant = {"mode": same["mode"], "flags": same["flags"], "request": ("0", "0"), "missing ids": ("0", str(max(ASKED))),
                  "priority blocks waiting": ("0", str(CAPACITY[0x95])), "ordinary blocks waiting": ("0", str(CAPACITY[0x96])),
                  "id": (str(min(ROWS)), str(max(ROWS))), "value, signed": ("its row", "its row"), "block": ("any", "any")}
         for row in self.fields:
