@@ -1,6 +1,7 @@
 -- Request No. 5, by computation: the list of missing ids that is kept, right and wrong by the marks, and what calls leave of it.
 -- Assumes nothing.
 use Prim.Native.Nat.{ℕ}
+use mathlib.Core.Bool.{false}
 use mathlib.Core.List.{List, [], _∷_, _++_, map}
 use mathlib.Core.Path.{_≡_}
 use lib.Dec.{eqb}
@@ -41,10 +42,17 @@ marking marks l p = withParams (record { values = p .params .values; written = m
 abbrev pub unmarked : List ℕ → Pod → Pod
 unmarked l = marking (replicate 12 0) l
 
+-- no value at its start, and nothing marked
+abbrev pub elsewhere : List ℕ → Pod → Pod
+elsewhere l p =
+    withParams (record { values = map pos (0 ∷ 11000 ∷ 100 ∷ 40 ∷ 1 ∷ 0 ∷ 3 ∷ 7 ∷ 1 ∷ 1 ∷ 1 ∷ 500 ∷ []); written = replicate 12 false; missing = l }) p
+
 -- the right list
 abbrev pub rightly : List (Pod → Pod)
 rightly =
     unmarked allMissing
+    -- by the marks, whatever the values are
+    ∷ elsewhere allMissing
     -- by one mark each: 1, 2, 3, 6 and 7
     ∷ marking (1 ∷ 0 ∷ 0 ∷ 0 ∷ 0 ∷ 0 ∷ 0 ∷ 0 ∷ 0 ∷ 0 ∷ 0 ∷ 0 ∷ []) (2 ∷ 3 ∷ 6 ∷ 7 ∷ 0 ∷ 0 ∷ 0 ∷ 0 ∷ [])
     ∷ marking (0 ∷ 1 ∷ 0 ∷ 0 ∷ 0 ∷ 0 ∷ 0 ∷ 0 ∷ 0 ∷ 0 ∷ 0 ∷ 0 ∷ []) (1 ∷ 3 ∷ 6 ∷ 7 ∷ 0 ∷ 0 ∷ 0 ∷ 0 ∷ [])
@@ -97,12 +105,14 @@ wrongly =
     ∷ marking (0 ∷ 0 ∷ 1 ∷ 0 ∷ 0 ∷ 0 ∷ 0 ∷ 0 ∷ 0 ∷ 0 ∷ 0 ∷ 0 ∷ []) allMissing
     ∷ marking (0 ∷ 0 ∷ 0 ∷ 0 ∷ 0 ∷ 1 ∷ 0 ∷ 0 ∷ 0 ∷ 0 ∷ 0 ∷ 0 ∷ []) allMissing
     ∷ marking (0 ∷ 0 ∷ 0 ∷ 0 ∷ 0 ∷ 0 ∷ 1 ∷ 0 ∷ 0 ∷ 0 ∷ 0 ∷ 0 ∷ []) allMissing
-    -- another id struck out than is marked; its place left empty; the last one left; and by the mark of 4
+    -- another id struck out than is marked; its place left empty; the last one twice; the last one left; and by the mark of 4
     ∷ marking (0 ∷ 1 ∷ 0 ∷ 0 ∷ 0 ∷ 0 ∷ 0 ∷ 0 ∷ 0 ∷ 0 ∷ 0 ∷ 0 ∷ []) (2 ∷ 3 ∷ 6 ∷ 7 ∷ 0 ∷ 0 ∷ 0 ∷ 0 ∷ [])
     ∷ marking (0 ∷ 1 ∷ 0 ∷ 0 ∷ 0 ∷ 0 ∷ 0 ∷ 0 ∷ 0 ∷ 0 ∷ 0 ∷ 0 ∷ []) (1 ∷ 0 ∷ 3 ∷ 6 ∷ 7 ∷ 0 ∷ 0 ∷ 0 ∷ [])
     ∷ marking (0 ∷ 1 ∷ 0 ∷ 0 ∷ 0 ∷ 0 ∷ 0 ∷ 0 ∷ 0 ∷ 0 ∷ 0 ∷ 0 ∷ []) (1 ∷ 3 ∷ 6 ∷ 7 ∷ 7 ∷ 0 ∷ 0 ∷ 0 ∷ [])
     ∷ marking (1 ∷ 1 ∷ 1 ∷ 0 ∷ 0 ∷ 1 ∷ 1 ∷ 0 ∷ 0 ∷ 0 ∷ 0 ∷ 0 ∷ []) (7 ∷ 0 ∷ 0 ∷ 0 ∷ 0 ∷ 0 ∷ 0 ∷ 0 ∷ [])
     ∷ marking (0 ∷ 0 ∷ 0 ∷ 1 ∷ 0 ∷ 0 ∷ 0 ∷ 0 ∷ 0 ∷ 0 ∷ 0 ∷ 0 ∷ []) (1 ∷ 2 ∷ 3 ∷ 6 ∷ 0 ∷ 0 ∷ 0 ∷ 0 ∷ [])
+    -- ids struck out by the values and no mark
+    ∷ elsewhere noneMissing
     -- not twelve marks
     ∷ marking (replicate 11 0) allMissing
     ∷ marking (replicate 13 0) allMissing

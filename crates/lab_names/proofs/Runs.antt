@@ -1,4 +1,4 @@
--- Runs of names: parts that count with the place, and the last place of a run.
+-- Runs of names: parts that count with the place.
 -- Assumes nothing.
 use Prim.Native.Nat.{ℕ, zero, suc, _+_, _-_, _≤_, _<_}
 use native.Mathlib.Omega.{arith}
@@ -58,21 +58,3 @@ unfolding counted names stateNames writtenNames missingNames portNames valueName
 value-at i h k =
     let e : i - 41 ≡ 1 + (i - 42) = omega arith in
     ap Value e ∙ by-place Value 1 42 12 i refl h k
-
--- of the first places none, so the last one
-abbrev Missed : ℕ → ℕ → Type 0
-Missed zero i = Unit {0}
-Missed (suc k) i = Missed k i × (i ≡ k → ⊥)
-
-missed-low : (k i : ℕ) → Missed k i → k ≤ i
-missed-low zero i m = omega arith
-missed-low (suc k) i m = up (missed-low k i (m .0)) (m .1)
-  where
-    up : k ≤ i → (i ≡ k → ⊥) → suc k ≤ i
-    up h n = omega arith
-
-pub last-is : (k i : ℕ) → Missed k i → i < suc k → i ≡ k
-last-is k i m h = let low : k ≤ i = missed-low k i m in same low h
-  where
-    same : k ≤ i → i < suc k → i ≡ k
-    same l h = omega arith

@@ -3,17 +3,16 @@
 use Prim.Native.Nat.{ℕ, zero, suc, _+_, _-_, _≤_, _<_}
 use native.Mathlib.Omega.{arith}
 use native.Mathlib.Numerals.{add-one}
-use mathlib.Core.Path.{_≡_, refl, sym, ap, ap₂, _∙_}
-use mathlib.Core.Bool.{true}
+use mathlib.Core.Path.{_≡_, refl, sym, ap, _∙_}
 use mathlib.Core.List.{List, [], _∷_, _++_}
 use lib.ListN.{length, drop, getD, replicate, drop-of-length-le}
 use lib.Seq.{sets, sets-eq, drop-cons}
-use lib.Dec.{eqb}
-use borrow.Author.Tests.{eqb-true, eq-eqb}
 use Rattle.items.specs.Characters.{space}
-use Rattle.rows.proofs.Bool.{and-left, and-right, split, never}
+use Rattle.rows.proofs.Bool.{split}
+use Rattle.rows.specs.Same.{sameList}
+use Rattle.rows.proofs.Same.{same-once, same-self}
 use Rattle.lab_names.specs.declared.Part.the-variants.{Unknown}
-use Rattle.lab_names.specs.Names.{Name, padded, noName, stateNames, writtenNames, missingNames, portNames, valueNames, otherNames, names, sameText, partIn}
+use Rattle.lab_names.specs.Names.{Name, padded, noName, stateNames, writtenNames, missingNames, portNames, valueNames, otherNames, names, partIn}
 
 drop-replicate : (k n a : ℕ) → drop k (replicate n a) ≡ replicate (n - k) a
 drop-replicate zero n a = let e : n ≡ n - 0 = omega arith in ap (λ (k : ℕ). replicate k a) e
@@ -29,20 +28,6 @@ pad-is t h =
     ∙ ap (λ (k : ℕ). t ++ drop k (replicate 14 space)) n
     ∙ ap (λ (l : List ℕ). t ++ l) (drop-replicate (length t) 14 space)
 
--- the test on two texts says whether they are one
-pub same-is : (a b : List ℕ) → sameText a b ≡ true → a ≡ b
-unfolding sameText
-same-is [] [] h = refl
-same-is [] (d ∷ ds) h = never h refl
-same-is (c ∷ cs) [] h = never h refl
-same-is (c ∷ cs) (d ∷ ds) h =
-    ap₂ (λ (x : ℕ) (l : List ℕ). x ∷ l) (eqb-true c d (and-left (eqb c d) (sameText cs ds) h)) (same-is cs ds (and-right (eqb c d) (sameText cs ds) h))
-
-same-refl : (a : List ℕ) → sameText a a ≡ true
-unfolding sameText
-same-refl [] = refl
-same-refl (c ∷ cs) = rw (eq-eqb c c refl, same-refl cs)
-
 module _ (t : List ℕ) (ns : List Name) (i : ℕ) (h : i < length ns) where
   next : drop i ns ≡ getD ns i noName ∷ drop (i + 1) ns
   next = drop-cons ns i noName h ∙ ap (λ (k : ℕ). getD ns i noName ∷ drop k ns) (sym (add-one i))
@@ -50,13 +35,13 @@ module _ (t : List ℕ) (ns : List Name) (i : ℕ) (h : i < length ns) where
   -- the name at the place is the text ..
   pub part-here : t ≡ getD ns i noName .text → partIn t (drop i ns) ≡ getD ns i noName .part
   unfolding partIn
-  part-here e = rw (next, sym e, same-refl t)
+  part-here e = rw (next, sym e, same-self t)
 
   -- .. or the search goes on
   pub part-past : (t ≡ getD ns i noName .text → ⊥) → partIn t (drop i ns) ≡ partIn t (drop (i + 1) ns)
   unfolding partIn
   part-past n =
-      split (sameText t (getD ns i noName .text)) (λ e. absurd (n (same-is t (getD ns i noName .text) e))) (λ e. rw (next, e))
+      split (sameList t (getD ns i noName .text)) (λ e. absurd (n (same-once t (getD ns i noName .text) e))) (λ e. rw (next, e))
 
 -- past the end there is none
 pub part-end : (t : List ℕ) (ns : List Name) (i : ℕ) → length ns ≤ i → partIn t (drop i ns) ≡ Unknown

@@ -3,10 +3,11 @@
 use Prim.Native.Nat.{ℕ, _-_}
 use Prim.Native.String.{String, [] as none, _∷_ as _then_}
 use Prim.Native.Char.{code}
-use mathlib.Core.Bool.{Bool, true, false, _&&_, cond}
+use mathlib.Core.Bool.{cond}
 use mathlib.Core.List.{List, [], _∷_, _++_}
-use lib.Dec.{leb, eqb}
+use lib.Dec.{leb}
 use lib.ListN.{length, replicate}
+use Rattle.rows.specs.Same.{sameList}
 use Rattle.items.specs.Characters.{space}
 use Rattle.blocks.specs.declared.Store.the-variants.{Priority, Ordinary}
 use Rattle.orders.specs.declared.Table.the-variants.{Five, Six, Seven}
@@ -138,17 +139,10 @@ unfoldable pub textsOf : List Name → List ℕ
 textsOf [] = []
 textsOf (n ∷ ns) = n .text ++ textsOf ns
 
--- whether two texts are the same
-unfoldable pub sameText : List ℕ → List ℕ → Bool
-sameText [] [] = true
-sameText [] (d ∷ ds) = false
-sameText (c ∷ cs) [] = false
-sameText (c ∷ cs) (d ∷ ds) = eqb c d && sameText cs ds
-
 -- the first name that a text is
 unfoldable pub partIn : List ℕ → List Name → Part
 partIn t [] = Unknown
-partIn t (n ∷ ns) = cond (sameText t (n .text)) (n .part) (partIn t ns)
+partIn t (n ∷ ns) = cond (sameList t (n .text)) (n .part) (partIn t ns)
 
 -- what the head of a line names
 unfoldable pub partNamed : List ℕ → Part

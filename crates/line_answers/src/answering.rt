@@ -16,7 +16,7 @@ ghost use Rattle.line_calls.specs.Memory.{memory};
 ghost use Rattle.lines.specs.Turns.{Turns};
 ghost use Rattle.line_answers.specs.Turns.{Within, CallAnswered, TextAnswered, AnswersText, standing, Fine, Spent};
 
-// The longest line of output has 1,200 characters: with fewer left, what is gathered is written first.
+// No line of output has more than 1,200 characters: with fewer left, what is gathered is written first.
 const ENOUGH: usize = 64336;
 
 // A text's call and its answer.

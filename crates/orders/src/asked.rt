@@ -58,7 +58,7 @@ pub fn allowed(n: u16) -> bool
     (4 <= n) & (n <= 64)
 }
 
-// Loads and reads first, since they come most; no other command has their N.
+// Loads and reads first, since a read has most to do besides; no other command has their N.
 fn order(p: Parts) -> Order
     ensures { λ r. ⌜ r ≡ orderOf p ⌝ }
 {

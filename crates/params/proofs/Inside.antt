@@ -9,12 +9,14 @@ use lib.Dec.{eqb}
 use lib.IntN.{ℤ}
 use lib.ListN.{length, getD, set, length-set}
 use Rattle.rows.proofs.Bool.{and-left, and-right, and-both}
+use Rattle.rows.specs.Same.{sameList}
+use Rattle.rows.proofs.Same.{same-once, same-self}
 use Rattle.params.specs.declared.ParamRow.{ParamRow}
 use Rattle.params.specs.declared.Params.{Params}
 use Rattle.params.specs.Rows.{paramRows, noParamRow, paramRow}
-use Rattle.params.specs.Rules.{inRow, inSpan, inRows, filter, missingIds, missingOf, sameList, listKept, soundParams, startParams, stored, struck, writeOf}
+use Rattle.params.specs.Rules.{inRow, inSpan, inRows, filter, missingIds, missingOf, listKept, soundParams, startParams, stored, struck, writeOf}
 use Rattle.params.proofs.Laws.{id-taken, taken-id, by-write}
-use Rattle.params.proofs.Missing.{same-once, same-self, missing-long, struck-out}
+use Rattle.params.proofs.Missing.{missing-long, struck-out}
 
 -- ---- the three bounds
 

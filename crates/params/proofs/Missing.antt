@@ -3,6 +3,7 @@
 use Prim.{⊥}
 use Prim.Native.Nat.{ℕ, zero, suc, _+_, _*_, _<_, _≤_, _-_}
 use native.Mathlib.Omega.{arith}
+use native.Mathlib.Numerals.{add-one}
 use mathlib.Core.Path.{_≡_, refl, sym, ap, _∙_}
 use mathlib.Core.Bool.{Bool, true, false, _&&_, cond, false≢true}
 use mathlib.Core.List.{List, [], _∷_, _++_}
@@ -12,27 +13,30 @@ use lib.IntN.{ℤ}
 use lib.ListN.{length, drop, getD, replicate, drop-of-length-le}
 use lib.Seq.{drop-cons, length-sets}
 use Rattle.rows.proofs.Bool.{split, and-left, and-right, and-both, every-at}
+use Rattle.rows.specs.Same.{sameList}
+use Rattle.rows.proofs.Same.{same-once}
 use Rattle.params.specs.declared.Params.{Params}
-use Rattle.params.specs.Rules.{marked, filter, missingIds, missingOf, isId, sameList, listKept, struck, stored}
+use Rattle.params.specs.Rules.{marked, filter, missingIds, missingOf, isId, listKept, struck, stored}
 use Rattle.params.proofs.Laws.{id-within, stored-at}
 use Rattle.params.specs.Packed.{bitOf, lowFirst, bytes, places, index, askedMarks, listBy, listFor}
 
--- ---- the same list
+-- ---- a filter, from a place on
 
-pub same-once : (a b : List ℕ) → sameList a b ≡ true → a ≡ b
-unfolding sameList
-same-once [] [] h = refl
-same-once [] (y ∷ b) h = absurd (false≢true h)
-same-once (x ∷ a) [] h = absurd (false≢true h)
-same-once (x ∷ a) (y ∷ b) h =
-    let front = eqb-true x y (and-left (eqb x y) (sameList a b) h) in
-    let rest = same-once a b (and-right (eqb x y) (sameList a b) h) in
-    cc
+unfoldable pub passing : (ℕ → Bool) → List ℕ → ℕ → List ℕ
+passing test l i = filter test (drop i l)
 
-pub same-self : (a : List ℕ) → sameList a a ≡ true
-unfolding sameList
-same-self [] = refl
-same-self (x ∷ a) = rw (eq-eqb x x refl, same-self a)
+module _ (test : ℕ → Bool) (l : List ℕ) (i : ℕ) where
+  pub passes : i < length l → test (getD l i 0) ≡ true → passing test l i ≡ getD l i 0 ∷ passing test l (i + 1)
+  unfolding passing filter
+  passes h e = rw (drop-cons l i 0 h, e, add-one)
+
+  pub fails : i < length l → test (getD l i 0) ≡ false → passing test l i ≡ passing test l (i + 1)
+  unfolding passing filter
+  fails h e = rw (drop-cons l i 0 h, e, add-one)
+
+  pub none-left : length l ≤ i → passing test l i ≡ []
+  unfolding passing filter
+  none-left h = rw (drop-of-length-le l h)
 
 -- ---- a test of every mark
 

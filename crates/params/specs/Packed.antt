@@ -39,6 +39,7 @@ listBy a b c d e = sets (replicate 8 0) 0 (unless a 1 (unless b 2 (unless c 3 (u
 abbrev pub index : Bool → Bool → Bool → Bool → Bool → ℕ
 index a b c d e = bitOf a + 2 * bitOf b + 4 * bitOf c + 8 * bitOf d + 16 * bitOf e
 
+-- of twelve marks those five, as that number
 abbrev pub askedMarks : List Bool → ℕ
 askedMarks w = index (getD w 0 false) (getD w 1 false) (getD w 2 false) (getD w 5 false) (getD w 6 false)
 

@@ -8,6 +8,7 @@ use lib.Signed.{ltZ, leZ}
 use lib.Dec.{leb, eqb}
 use lib.ListN.{length, getD, set, replicate}
 use lib.Seq.{sets}
+use Rattle.rows.specs.Same.{sameList}
 use Rattle.params.specs.declared.ParamRow.{ParamRow}
 use Rattle.params.specs.declared.Params.{Params}
 use Rattle.params.specs.declared.Wrote.{Wrote}
@@ -59,13 +60,6 @@ missingIds p = filter (isMissing p) paramIds
 unfoldable pub missingOf : Params → List ℕ
 missingOf p = sets (replicate 8 0) 0 (missingIds p)
 
--- two lists are one, place by place
-unfoldable pub sameList : List ℕ → List ℕ → Bool
-sameList [] [] = true
-sameList [] (y ∷ ys) = false
-sameList (x ∷ xs) [] = false
-sameList (x ∷ xs) (y ∷ ys) = eqb x y && sameList xs ys
-
 -- request No. 5: "the kept list is exactly the one that document 01 defines from the written marks", of which there are twelve
 unfoldable pub listKept : Params → Bool
 listKept p = eqb (length (p .written)) 12 && sameList (p .missing) (missingOf p)
@@ -91,7 +85,7 @@ stored p id v = record { values = set (p .values) (id - 1) v; written = set (p .
 unfoldable pub writeAllowed : Params → ℕ → ℤ → Bool
 writeAllowed p id v = isId id && (inRow (paramRow id) v && inSpan (stored p id v))
 
--- a write: stored and marked when it is taken, else everything as it was
+-- a write: stored, marked and struck out when it is taken, else everything as it was
 unfoldable pub writeOf : Params → ℕ → ℤ → Wrote
 writeOf p id v = record { taken = writeAllowed p id v; params = cond (writeAllowed p id v) (stored p id v) p }
 

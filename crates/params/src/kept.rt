@@ -50,8 +50,8 @@ fn marks(w: [bool; 12]) -> u8
     bit(w[0]) + 2 * bit(w[1]) + 4 * bit(w[2]) + 8 * bit(w[5]) + 16 * bit(w[6])
 }
 
-// The first four places of the right list as such a number, by those marks: the compiler makes one look into a table of it. It
-// does so of 32 bits on a small processor too.
+// The first four places of the right list as such a number, by those marks. Four and not eight, since the compiler makes one look
+// into a table of it then also where a register has 32 bits.
 fn list_for(k: u8) -> u32
     requires { ⌜ k < 32 ⌝ }
     ensures { λ r. ⌜ r ≡ lowFirst (places (listFor k) 0 4) ⌝ }

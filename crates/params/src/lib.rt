@@ -184,7 +184,7 @@ pub fn start() -> Params
     }
 }
 
-// A write: stored and marked, or refused with the state as it was.
+// A write: stored, marked and struck out, or refused with the state as it was.
 pub fn write(p: Params, id: u8, value: i32) -> Wrote
     ensures { λ r. ⌜ r ≡ writeOf p id value ⌝ }
 {

@@ -21,7 +21,7 @@ use Rattle.rules.proofs.Handed.{handed-is-history}
 use Rattle.rules.proofs.PipeOnly.{pipe-only}
 use Rattle.rules.proofs.Frames.{frames-are-history}
 use Rattle.rules.proofs.Kept.{awake-is-history, fields-are-history, exchange-is-history, params-are-history, marks-are-history, drop-guarded, fresh-is}
-use Rattle.rules.proofs.Listed.{list-judged, list-is-history, power-mends}
+use Rattle.rules.proofs.Listed.{list-judged, list-is-history, params-only, power-mends}
 use Rattle.rules.proofs.NoTrace.{no-trace, as-from-power, no-trace-past}
 use Rattle.rules.proofs.Asleep.{answer-alike, asleep-from-power, asleep-from-shutdown}
 
@@ -34,6 +34,8 @@ whole =
       refused-unchanged = refused-unchanged;
       kept-sound = kept-sound;
       says-done = says-done;
+      list-judged = list-judged;
+      power-mends = power-mends;
       load-whole = load-whole;
       load-cut = load-cut;
       read-whole = read-whole;
@@ -69,8 +71,7 @@ whole =
       drop-guarded = drop-guarded;
       fresh-is = fresh-is;
       list-is-history = list-is-history;
-      list-judged = list-judged;
-      power-mends = power-mends;
+      params-only = params-only;
       no-trace = no-trace;
       as-from-power = as-from-power;
       no-trace-past = no-trace-past;

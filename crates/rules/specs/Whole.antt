@@ -3,7 +3,7 @@
 use Rattle.rules.specs.Demands.{AlwaysAnswered, LowestFirst, RowsExactly, RefusedUnchanged, KeptSound, LoadWhole, LoadCut, ReadWhole, ReadEnds, ReadMoves, TablesOnly, MessageError, StatusWordShows, PortOnly, PlacesOnly, PacketAnswered, ChecksExactly, OpensExactly, Damage, DamageAnswered, ErrorUnchanged, BlocksAreHistory, ReceiveIsHistory, StatusIsHistory, ReadIsWritten, FramesAreHistory, NoTrace, AsFromPower, NoTracePast, AnswerAlike, AsleepFromPower, AsleepFromShutdown, TransferOnly, PortIsHistory, ReadsShown}
 use Rattle.rules.specs.Halves.{PipeIsHistory, HandedIsHistory, PipeOnly}
 use Rattle.rules.specs.Kept.{AwakeIsHistory, FieldsAreHistory, ExchangeIsHistory, ParamsAreHistory, MarksAreHistory, DropGuarded, FreshIs}
-use Rattle.rules.specs.Listed.{ListJudged, ListIsHistory, PowerMends}
+use Rattle.rules.specs.Listed.{ListJudged, ListIsHistory, ParamsOnly, PowerMends}
 use Rattle.rules.specs.Said.{SaysDone}
 
 pub record Whole : Type 0 where
@@ -14,6 +14,8 @@ pub record Whole : Type 0 where
   pub refused-unchanged : RefusedUnchanged
   pub kept-sound : KeptSound
   pub says-done : SaysDone
+  pub list-judged : ListJudged
+  pub power-mends : PowerMends
   -- 2. answers, tables, blocks and frames are exactly the papers'
   pub load-whole : LoadWhole
   pub load-cut : LoadCut
@@ -51,8 +53,7 @@ pub record Whole : Type 0 where
   pub drop-guarded : DropGuarded
   pub fresh-is : FreshIs
   pub list-is-history : ListIsHistory
-  pub list-judged : ListJudged
-  pub power-mends : PowerMends
+  pub params-only : ParamsOnly
   -- 3. nothing of the past shows after an accepted Initialise, and nothing of parameters, tables and blocks while asleep
   pub no-trace : NoTrace
   pub as-from-power : AsFromPower

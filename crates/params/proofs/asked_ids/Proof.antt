@@ -1,51 +1,43 @@
 -- `params::asked_ids` meets its contract: at each turn, the asked ids that are left, stored from place n on, make the array the list.
 -- Assumes nothing.
-use Prim.Native.Nat.{ℕ, zero, suc, _+_, _≤_, _<_, _-_}
-use mathlib.Core.Path.{_≡_, refl, _∙_}
-use mathlib.Core.List.{List, [], _∷_}
+use Prim.Native.Nat.{ℕ, suc, _+_, _≤_, _<_, _-_}
+use mathlib.Core.Path.{_≡_, refl, ap, _∙_}
+use mathlib.Core.List.{List, _∷_}
 use mathlib.Core.Logic.{⊎-elim}
-use mathlib.Core.Bool.{true, false}
-use lib.ListN.{length, drop, getD}
-use lib.Seq.{sets, drop-cons}
+use mathlib.Core.Bool.{Bool, true, false}
+use lib.Dec.{eqb}
+use lib.ListN.{length, getD}
+use lib.Seq.{sets}
 use borrow.Author.Needs.{needs}
+use borrow.Author.Tests.{eqb-true}
 use native.Mathlib.Omega.{arith}
-use native.Mathlib.Nat.{not-suc-le-zero, le-of-suc-le-suc}
-use native.Mathlib.Numerals.{add-one}
+use Rattle.rows.proofs.Bool.{every-at}
 use Rattle.params.specs.Rows.{paramIds, paramRow, paramRows, noParamRow}
 use Rattle.params.specs.Rules.{filter, startParams}
+use Rattle.params.proofs.Missing.{passing, passes, fails}
 use Rattle.params.proofs.asked_ids.Statement.{statement}
 use Rattle.params.proofs.asked_ids.Tie as tie
 
--- n numbers from k on
-abbrev from : ℕ → ℕ → List ℕ
-from k zero = []
-from k (suc n) = k ∷ from (suc k) n
-
--- the one at place i
-from-at : (k n i : ℕ) → i < n → getD (from k n) i 0 ≡ i + k
-from-at k zero i h = absurd (not-suc-le-zero h)
-from-at k (suc n) zero h = omega arith
-from-at k (suc n) (suc i) h = from-at (suc k) n i (le-of-suc-le-suc h) ∙ omega arith
+abbrev asked : ℕ → Bool
+asked id = paramRow id .asked
 
 -- the asked ids that are left from place i on
-unfoldable left : ℕ → List ℕ
-left i = filter (λ id. paramRow id .asked) (drop i paramIds)
+abbrev left : ℕ → List ℕ
+left i = passing asked paramIds i
 
 module _ (i : ℕ) (h : i < 12) where
   -- place i has the id i + 1, and its row
-  next : drop i paramIds ≡ (i + 1) ∷ drop (i + 1) paramIds
-  next = rw (drop-cons paramIds i 0 h, from-at 1 12 i h, add-one)
+  here : getD paramIds i 0 ≡ i + 1
+  here = eqb-true (getD paramIds i 0) (i + 1) (every-at (λ k. eqb (getD paramIds k 0) (k + 1)) 12 i refl h)
 
-  row-of : paramRow (i + 1) .asked ≡ getD paramRows i noParamRow .asked
-  row-of = let place : i + 1 - 1 ≡ i = omega arith in rw place
+  row-of : paramRow (getD paramIds i 0) .asked ≡ getD paramRows i noParamRow .asked
+  row-of = let place : i + 1 - 1 ≡ i = omega arith in rw (here, place)
 
   left-yes : getD paramRows i noParamRow .asked ≡ true → left i ≡ (i + 1) ∷ left (i + 1)
-  unfolding left filter
-  left-yes e = rw (next, row-of, e)
+  left-yes e = passes asked paramIds i h (row-of ∙ e) ∙ ap (λ k. k ∷ left (i + 1)) here
 
   left-no : getD paramRows i noParamRow .asked ≡ false → left i ≡ left (i + 1)
-  unfolding left filter
-  left-no e = rw (next, row-of, e)
+  left-no e = fails asked paramIds i h (row-of ∙ e)
 
 abbrev Inv-loop : tie.InvT-loop
 Inv-loop table out₀ n₀ i₀ out n i = (table ≡ paramRows) × (i ≤ 12) × (n + length (left i) ≤ 5) × (sets out n (left i) ≡ startParams .missing)
@@ -61,7 +53,7 @@ room c =
     omega (arith, rw (left-yes (at .i) (search needs) asked) at (at .inv .2))
 
 pub asked-ids-spec : {M : Type 1} → statement M
-unfolding left filter startParams
+unfolding passing filter startParams
 asked-ids-spec =
     tie.close
     (tie.spec Inv-loop μ-loop (λ c. (refl, search needs, search needs, refl)) (λ c. search needs) (λ c. search needs) (λ c. search needs)

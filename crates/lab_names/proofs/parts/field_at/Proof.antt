@@ -1,6 +1,6 @@
 -- `lab_names::parts::field_at` meets its contract. Assumes nothing.
 use Rattle.lab_names.specs.Names.{names, stateNames}
-use Rattle.lab_names.proofs.Runs.{last-is}
+use Rattle.rows.proofs.Bool.{last-of}
 use Rattle.lab_names.proofs.parts.field_at.Statement.{statement}
 use Rattle.lab_names.proofs.parts.field_at.Tie as tie
 
@@ -17,4 +17,4 @@ field-at-spec =
     (λ c. rw (c .match .keys6))
     (λ c. rw (c .match .keys7))
     (λ c. rw (c .match .keys8))
-    (λ c. rw (last-is 8 (c .before .args .i) (c .match .rest) (c .before .pre))))
+    (λ c. rw (last-of 8 (c .before .args .i) (c .match .rest) (c .before .pre))))

@@ -1,6 +1,6 @@
 -- `lab_names::parts::port_at` meets its contract. Assumes nothing.
 use Rattle.lab_names.specs.Names.{names, stateNames, writtenNames, missingNames, portNames}
-use Rattle.lab_names.proofs.Runs.{last-is}
+use Rattle.rows.proofs.Bool.{last-of}
 use Rattle.lab_names.proofs.parts.port_at.Statement.{statement}
 use Rattle.lab_names.proofs.parts.port_at.Tie as tie
 
@@ -20,4 +20,4 @@ port-at-spec =
     (λ c. rw (c .match .keys9))
     (λ c. rw (c .match .keys10))
     (λ c. rw (c .match .keys11))
-    (λ c. rw (last-is 11 (c .before .args .i) (c .match .rest) (c .before .pre))))
+    (λ c. rw (last-of 11 (c .before .args .i) (c .match .rest) (c .before .pre))))

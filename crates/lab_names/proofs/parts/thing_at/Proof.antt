@@ -1,6 +1,6 @@
 -- `lab_names::parts::thing_at` meets its contract. Assumes nothing.
 use Rattle.lab_names.specs.Names.{names, stateNames, writtenNames, missingNames, portNames, valueNames, otherNames}
-use Rattle.lab_names.proofs.Runs.{last-is}
+use Rattle.rows.proofs.Bool.{last-of}
 use Rattle.lab_names.proofs.parts.thing_at.Statement.{statement}
 use Rattle.lab_names.proofs.parts.thing_at.Tie as tie
 
@@ -14,4 +14,4 @@ thing-at-spec =
     (λ c. rw (c .match .keys3))
     (λ c. rw (c .match .keys4))
     (λ c. rw (c .match .keys5))
-    (λ c. rw (last-is 5 (c .before .args .i) (c .match .rest) (c .before .pre))))
+    (λ c. rw (last-of 5 (c .before .args .i) (c .match .rest) (c .before .pre))))

@@ -1,45 +1,30 @@
 -- `params::kept::struck` meets its contract: at each turn, what is left of the list but for the id, stored from place n on, makes the array the list.
 -- Assumes nothing.
-use Prim.{⊥}
-use Prim.Native.Nat.{ℕ, suc, _+_, _≤_, _<_, _-_}
+use Prim.Native.Nat.{ℕ, suc, _≤_, _<_, _-_}
 use mathlib.Core.Path.{_≡_, refl}
 use mathlib.Core.Logic.{⊎-elim}
-use mathlib.Core.Bool.{not}
-use mathlib.Core.List.{List, [], _∷_}
+use mathlib.Core.Bool.{Bool, true, false, not}
+use mathlib.Core.List.{List}
 use lib.Dec.{eqb}
-use lib.ListN.{length, drop, getD, replicate, drop-of-length-le}
-use lib.Seq.{sets, drop-cons}
+use lib.ListN.{length, getD, replicate}
+use lib.Seq.{sets}
 use borrow.Author.Needs.{needs}
 use borrow.Author.Tests.{eq-eqb, ne-eqb}
 use native.Mathlib.Omega.{arith}
-use native.Mathlib.Numerals.{add-one}
-use Rattle.params.specs.Rules.{filter, struck}
+use Rattle.params.specs.Rules.{struck}
+use Rattle.params.proofs.Missing.{passing, passes, fails, none-left}
 use Rattle.params.proofs.kept.struck.Statement.{statement}
 use Rattle.params.proofs.kept.struck.Tie as tie
 
--- what is left from place i on
-unfoldable left : ℕ → List ℕ → ℕ → List ℕ
-left id l i = filter (λ k. not (eqb k id)) (drop i l)
+abbrev other : ℕ → ℕ → Bool
+other id k = not (eqb k id)
 
-module _ (id : ℕ) (l : List ℕ) where
-  left-yes : (i : ℕ) → i < length l → (getD l i 0 ≡ id → ⊥) → left id l i ≡ getD l i 0 ∷ left id l (i + 1)
-  unfolding left filter
-  left-yes i h e = rw (drop-cons l i 0 h, ne-eqb _ _ e, add-one)
-
-  left-no : (i : ℕ) → i < length l → getD l i 0 ≡ id → left id l i ≡ left id l (i + 1)
-  unfolding left filter
-  left-no i h e = rw (drop-cons l i 0 h, eq-eqb _ _ e, add-one)
-
-  first : sets (replicate 8 0) 0 (left id l 0) ≡ struck id l
-  unfolding left struck
-  first = refl
-
-  none : (i : ℕ) → length l ≤ i → left id l i ≡ []
-  unfolding left filter
-  none i h = rw (drop-of-length-le l h)
+first : (id : ℕ) (l : List ℕ) → sets (replicate 8 0) 0 (passing (other id) l 0) ≡ struck id l
+unfolding passing struck
+first id l = refl
 
 abbrev Inv-loop : tie.InvT-loop
-Inv-loop id list out₀ n₀ i₀ out n i = (i ≤ 8) × (n ≤ i) × (sets out n (left id list i) ≡ struck id list)
+Inv-loop id list out₀ n₀ i₀ out n i = (i ≤ 8) × (n ≤ i) × (sets out n (passing (other id) list i) ≡ struck id list)
 
 abbrev μ-loop : tie.MeasureT-loop
 μ-loop id list out₀ n₀ i₀ out n i = 8 - i
@@ -55,15 +40,17 @@ struck-spec =
     let within : at .i < length (a .t1) = search needs in
     ⊎-elim
     (λ w.
-    let turn = rw (left-yes (a .id) (a .t1) (at .i) within (w .0 .taken)) at (at .inv .2) in
+    let stays : other (a .id) (getD (a .t1) (at .i) 0) ≡ true = rw (ne-eqb (getD (a .t1) (at .i) 0) (a .id) (w .0 .taken)) in
+    let turn = rw (passes (other (a .id)) (a .t1) (at .i) within stays) at (at .inv .2) in
     let more : c .if1 .n ≡ suc (at .n) = omega arith in
     (search needs, omega arith, cc))
     (λ w.
-    let turn = rw (left-no (a .id) (a .t1) (at .i) within (w .0 .left)) at (at .inv .2) in
+    let goes : other (a .id) (getD (a .t1) (at .i) 0) ≡ false = rw (eq-eqb (getD (a .t1) (at .i) 0) (a .id) (w .0 .left)) in
+    let turn = rw (fails (other (a .id)) (a .t1) (at .i) within goes) at (at .inv .2) in
     (search needs, omega arith, cc))
     (c .if1 .came))
     (λ c.
     let at = c .before .loop in
     let a = c .before .before .args in
     let short : length (a .t1) ≤ at .i = search needs in
-    rw (none (a .id) (a .t1) (at .i) short) at (at .inv .2)))
+    rw (none-left (other (a .id)) (a .t1) (at .i) short) at (at .inv .2)))
