@@ -73,6 +73,13 @@ judges =
     ∷ samples 0 (replicate 128 0)
     ∷ []
 
+-- what they are refused by in a state within its bounds, awake and asleep: none; the puts and the pipe while not initialised by 6
+abbrev pub judgedAwake : List ℕ
+judgedAwake = replicate 13 0
+
+abbrev pub judgedAsleep : List ℕ
+judgedAsleep = 0 ∷ 6 ∷ 6 ∷ replicate 5 0 ++ (replicate 4 6 ++ (0 ∷ []))
+
 -- the table, with a pod that is awake
 abbrev pub edges : World → List ComputedLine
 edges awake =
@@ -148,7 +155,7 @@ outwardEdges awake =
     ∷ line (refusalsIn (handling 0 16 justPowered) judges) (replicate 13 3)
     -- within them, only a second packet; asleep, the two puts and the four pipe calls
     ∷ line (refusalsIn (handling 8 15 awake) judges) (replicate 10 0 ++ (21 ∷ 0 ∷ 0 ∷ []))
-    ∷ line (refusalsIn (handling 8 15 justPowered) judges) (0 ∷ 6 ∷ 6 ∷ replicate 5 0 ++ (replicate 4 6 ++ (0 ∷ [])))
+    ∷ line (refusalsIn (handling 8 15 justPowered) judges) judgedAsleep
     ∷ line (refusalIn (handling 9 16 justPowered) power) []
     ∷ []
 

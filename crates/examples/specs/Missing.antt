@@ -18,7 +18,7 @@ use Rattle.rules.specs.Families.{command, dataIn, dataOut, status, byte, timeou
 use Rattle.rules.specs.World.{World, withPod, Call, power, packet, put, word, lone, samples, step, next, final}
 use Rattle.rules.specs.Demands.{justPowered}
 use Rattle.examples.specs.Shown.{justInitialised, ComputedLine, line, AsExpected}
-use Rattle.examples.specs.Edges.{refusalIn, refusalsIn, judges}
+use Rattle.examples.specs.Edges.{refusalIn, refusalsIn, judges, judgedAwake, judgedAsleep}
 use Rattle.examples.specs.Bounds.{bent, asleep}
 
 -- the list that is kept
@@ -117,13 +117,6 @@ wrongly =
     ∷ marking (replicate 11 0) allMissing
     ∷ marking (replicate 13 0) allMissing
     ∷ []
-
--- every call but power on, awake and asleep: none is refused; while not initialised, the puts and the pipe are by 6
-abbrev pub judgedAwake : List ℕ
-judgedAwake = replicate 13 0
-
-abbrev pub judgedAsleep : List ℕ
-judgedAsleep = 0 ∷ 6 ∷ 6 ∷ replicate 5 0 ++ (replicate 4 6 ++ (0 ∷ []))
 
 -- calls that are lent nothing to change: a table word, the deadline, the pipe, samples
 abbrev pub lentNothing : List Call
