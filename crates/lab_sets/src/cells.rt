@@ -20,10 +20,9 @@ use tables::Table;
 use tables::Words;
 ghost use mathlib.Core.Path.{_≡_};
 ghost use Prim.Native.Nat.{_≤_};
-ghost use lib.Dec.{eqb};
 ghost use Rattle.tables.specs.Tables.{withReadPlace};
 ghost use Rattle.tables.specs.Port.{withError, withPlaces};
-ghost use Rattle.rules.specs.State.{withInitialised, withFields, withRing, withWords, withPipe, ringOf};
+ghost use Rattle.rules.specs.State.{withInitialised, withFields, withRing, ringOf};
 ghost use Rattle.lab_sets.specs.Ranges.{fieldMost, cellMost};
 ghost use Rattle.lab_sets.specs.Setting.{fieldSet, ring, gathering, counting, holdsOut, countsOut, cellSet};
 

@@ -18,8 +18,6 @@ use rules::Pod;
 ghost use mathlib.Core.Path.{_≡_};
 ghost use Prim.Native.Nat.{_+_, _≤_};
 ghost use lib.ListN.{length};
-ghost use Rattle.tables.specs.Tables.{three};
-ghost use Rattle.rules.specs.State.{Lent};
 ghost use Rattle.decimals.specs.Printing.{spelled, Written};
 ghost use Rattle.lab_shows.specs.Shown.{frontNumbers, backNumbers, shownChecks, shownOutput, shownList, shownText, lentOf};
 

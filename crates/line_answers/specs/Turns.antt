@@ -6,7 +6,6 @@ use mathlib.Core.Bool.{true, false, _&&_}
 use mathlib.Core.List.{List}
 use lib.Dec.{ltb, leb}
 use lib.ListN.{length}
-use Rattle.rules.specs.declared.Pod.{Pod}
 use Rattle.lines.specs.Cut.{before}
 use Rattle.lines.specs.Turns.{Stand, stand}
 use Rattle.answers.specs.Answers.{lineText}

@@ -5,20 +5,20 @@ use Prim.Native.Nat.{ℕ, zero, suc, _+_, _*_, _<_, _≤_, _-_}
 use native.Mathlib.Omega.{arith}
 use native.Mathlib.Numerals.{add-one}
 use mathlib.Core.Path.{_≡_, refl, sym, ap, _∙_}
-use mathlib.Core.Bool.{Bool, true, false, _&&_, cond, false≢true}
+use mathlib.Core.Bool.{Bool, true, false, _&&_, cond}
 use mathlib.Core.List.{List, [], _∷_, _++_}
 use borrow.Author.Tests.{eqb-true, eqb-false, eq-eqb, ne-eqb, ltb-true}
 use lib.Dec.{eqb, ltb}
 use lib.IntN.{ℤ}
-use lib.ListN.{length, drop, getD, replicate, drop-of-length-le}
-use lib.Seq.{drop-cons, length-sets}
+use lib.ListN.{length, drop, getD, drop-of-length-le}
+use lib.Seq.{drop-cons}
 use Rattle.rows.proofs.Bool.{split, and-left, and-right, and-both, every-at}
 use Rattle.rows.specs.Same.{sameList}
 use Rattle.rows.proofs.Same.{same-once}
 use Rattle.params.specs.declared.Params.{Params}
 use Rattle.params.specs.Rules.{marked, filter, missingIds, missingOf, isId, listKept, struck, stored}
 use Rattle.params.proofs.Laws.{id-within, stored-at}
-use Rattle.params.specs.Packed.{bitOf, lowFirst, bytes, places, index, askedMarks, listBy, listFor}
+use Rattle.params.specs.Packed.{lowFirst, bytes, places, index, askedMarks, listBy, listFor}
 
 -- ---- a filter, from a place on
 

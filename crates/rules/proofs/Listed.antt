@@ -2,7 +2,7 @@
 -- does; power on makes a fresh state of any.
 -- Assumes nothing.
 use mathlib.Core.Path.{_≡_, refl, ap, _∙_}
-use mathlib.Core.Bool.{Bool, true, false, not, false≢true}
+use mathlib.Core.Bool.{true, false, false≢true}
 use Rattle.rows.specs.Rows.{Clear, past}
 use Rattle.rows.proofs.Laws.{never-both}
 use Rattle.rows.proofs.Bool.{not-false}

@@ -7,7 +7,7 @@ use mathlib.Core.Bool.{Bool, true, false, _&&_, _||_, cond}
 use mathlib.Core.List.{List}
 use lib.Dec.{eqb}
 use lib.IntN.{ℤ, pos}
-use lib.ListN.{length, getD, set, length-set, getD-replicate}
+use lib.ListN.{length, length-set, getD-replicate}
 use Rattle.rows.proofs.Bool.{and-left}
 use Rattle.params.specs.declared.Params.{Params}
 use Rattle.params.specs.Rows.{paramRow}

@@ -4,7 +4,6 @@ use native.Mathlib.Omega.{arith}
 use Rattle.blocks.proofs.Places.{bounds}
 use Rattle.rules.specs.Obey.{reportOf}
 use Rattle.rules.proofs.Inside.{pod-in}
-use borrow.Author.Needs.{needs}
 use Rattle.commands.proofs.obeying.report.Statement.{statement}
 use Rattle.commands.proofs.obeying.report.Tie as tie
 

@@ -10,7 +10,6 @@ use borrow.Author.Tests.{ltb-true, leb-true}
 use Rattle.rows.proofs.Bool.{and-left, and-right}
 use Rattle.lines.specs.declared.Cut.{Cut}
 use Rattle.line_calls.specs.Memory.{memory}
-use Rattle.line_answers.specs.declared.Standing.{Standing}
 use Rattle.lines.specs.Turns.{Turns, start, another}
 use Rattle.lines.proofs.Turning.{cut-on, turn-found, turn-more}
 use Rattle.line_answers.specs.Turns.{AnswersText, standing, Fine}

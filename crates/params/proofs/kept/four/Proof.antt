@@ -1,6 +1,5 @@
 -- `params::kept::four` meets its contract: a byte is under 256.
 -- Assumes nothing.
-use mathlib.Core.Path.{refl}
 use borrow.Author.Needs.{needs}
 use borrow.Author.Tests.{lt-ltb}
 use native.Mathlib.Omega.{arith}

@@ -1,8 +1,8 @@
 -- `params::kept::rest_for` meets its contract: each of the other numbers is tried.
 -- Assumes nothing.
 use Prim.Native.Nat.{ℕ}
-use mathlib.Core.Path.{_≡_, refl, sym}
-use mathlib.Core.Bool.{Bool, _||_, false}
+use mathlib.Core.Path.{refl, sym}
+use mathlib.Core.Bool.{Bool, _||_}
 use lib.Dec.{eqb}
 use borrow.Author.Needs.{needs}
 use borrow.Author.Tests.{eqb-true, ne-eqb}
