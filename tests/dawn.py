@@ -83,14 +83,6 @@ def reads(values, why):
         say('R', 'R %04X' % v, why if k == 0 else '')
 
 
-def read_at(address, data, why):
-    """One word of table 5 or five, from an address on."""
-    words('C', [ADDRESS], 'the next read address')
-    words('W', [address], str(address))
-    words('C', [READ5 if data[1:] else READ5_ONE], 'read table 5, N 8' if data[1:] else 'read one word')
-    reads([5, address, len(data)] + data, why)
-
-
 def message_error(yes, why):
     say('S', 'S %04X' % (2 if yes else 0), why)
 
@@ -117,7 +109,6 @@ def survey(check, why, **state):
 
 
 LOAD5, READ5, READ5_ONE, ADDRESS, STOP = 0x0A08, 0xCA08, 0xCA04, 0x8201, 0x8000
-STORE5, FETCH5 = 0x1401, 0x9C01
 RANGES = [0x0C80, 0x1900, 0x2580, 0x3200, 0x3E80]
 ASKED = [1, 2, 3, 6, 7]
 BLOCK = list(range(256))
@@ -154,26 +145,22 @@ say('D', 'D', '2 ms pass without an acknowledgement')
 words('C', [LOAD5], 'load table 5, N 8: three header words and five of data')
 words('W', [5, 16, 5] + RANGES, 'command number, address 16, count 5, and the data')
 message_error(False, 'taken')
-read_at(16, RANGES, 'the same header and the same data')
+words('C', [ADDRESS], 'the next read address')
+words('W', [16], '16')
+words('C', [READ5], 'read table 5, N 8')
+reads([5, 16, 5] + RANGES, 'the same header and the same data')
 reads([0], 'one word too many reads as 0')
 message_error(True, 'and sets message error')
-
-# a preset
-words('C', [STORE5], 'store table 5 in a preset')
-words('W', [2], 'preset 2')
-message_error(False, 'stored')
-words('C', [STORE5], 'store it once more')
-words('W', [4], 'there is no preset 4')
-message_error(True, 'message error, and the message is over')
-words('W', [3], 'so a number behind it comes too late')
-message_error(True, 'no transfer is open')
 
 # a cut load
 words('C', [LOAD5], 'another load of table 5')
 words('W', [5, 32, 5, 0xFFFF], 'cut after its first data word')
 words('C', [STOP], 'stop')
 message_error(True, 'a transfer closed before its last word')
-read_at(32, [0], 'the cut load left nothing')
+words('C', [ADDRESS], 'the next read address')
+words('W', [32], '32')
+words('C', [READ5_ONE], 'read one word')
+reads([5, 32, 1, 0], 'the cut load left nothing')
 
 # blocks
 say('B p' + spelled(BLOCK), 'B', 'a priority block: the bytes 00 to FF')
@@ -251,34 +238,17 @@ asked(0x91, [], status(2, 0, 0, 0, ASKED), 'no block of the last hire, and every
 acknowledged(0x91, 'acknowledged')
 asked(0x94, [1], written(1, -2000), 'span low at its start, -20.00 C')
 acknowledged(0x94, 'acknowledged')
-read_at(16, [0] * 5, 'the table at its start')
+words('C', [ADDRESS], 'the next read address')
+words('W', [16], '16')
+words('C', [READ5], 'read table 5, N 8')
+reads([5, 16, 5] + [0] * 5, 'the table at its start')
 say('K', 'K -', 'nothing of the last hire is in hand')
 survey(0x00, 'no timeout of the last hire')
-
-# a regular client
-words('C', [FETCH5], 'fetch table 5 from a preset')
-words('W', [2], 'preset 2, stored in the last hire')
-message_error(False, 'fetched, in one message')
-read_at(16, RANGES, 'the range table of before')
-words('C', [FETCH5], 'fetch it from another preset')
-words('W', [3], 'preset 3, which was never stored')
-message_error(False, 'that is no mistake')
-words('C', [READ5_ONE], 'read one word, at the read place')
-reads([5, 21, 1, 0], 'which the fetch has kept: 21, just behind the last read')
-read_at(16, [0], 'a preset never stored brings the table at its start')
 
 # power
 say('Z', 'Z', 'power off and on')
 failed(0x91, [], 0x38, 'not initialised')
 message_error(False, 'no message error')
-words('C', [FETCH5], 'a fetch while not initialised')
-message_error(True, 'any command word is an error then')
-done(0x90, fields(2, 0, 25500, 0, 8, 8, 50, 50, 2000), 'Initialise, 07:05:00.000')
-read_at(16, [0], 'the table at its start: nothing is fetched unless asked')
-words('C', [FETCH5], 'fetch table 5 from a preset')
-words('W', [2], 'preset 2')
-message_error(False, 'fetched: it has outlived Initialise, Shutdown and power')
-read_at(16, RANGES, 'the range table of the first hire')
 
 
 def short(text):

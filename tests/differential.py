@@ -1,10 +1,10 @@
 """The programs against the model, byte for byte.
 
 Sessions of seeds 0 to N-1 go to `./run console`, many in one run with a `Z` line between
-them, which presets outlive; some of them also go to `./run session`, each on a fresh pod in a
-run of its own, its packet lines alone or, every second one, all its lines. The first difference
-is printed with its seed and line, and ends the test. At the end every labelled rule of the model
-must have been reached (`--rules` prints how often each was).
+them; some of them also go to `./run session`, each on a fresh pod in a run of its own, its
+packet lines alone or, every second one, all its lines. The first difference is printed with
+its seed and line, and ends the test. At the end every labelled rule of the model must have
+been reached (`--rules` prints how often each was).
 """
 
 import argparse
@@ -19,6 +19,7 @@ from model import Pod, session_line
 from ports import labels
 
 ROOT = Path(__file__).resolve().parent.parent
+BATCH = 50          # sessions in one run of console
 ALONE = 25          # sessions that also go to session, about
 LIMIT = 600         # seconds for one run
 
@@ -80,10 +81,11 @@ def text(line):
 def console_job(seeds):
     """Sessions for console with power off and on between them."""
     job = Job("console")
-    for session in sessions.together(seeds):
+    for seed in seeds:
+        session = sessions.make(seed)
         for number, (line, answer) in enumerate(zip(session.lines, session.answers), 1):
-            job.add((session.seed, number), line, answer)
-        job.add((session.seed, len(session.lines) + 1), b"Z", b"Z")
+            job.add((seed, number), line, answer)
+        job.add((seed, len(session.lines) + 1), b"Z", b"Z")
     return job
 
 
@@ -99,8 +101,8 @@ def session_job(seed, whole):
 
 def jobs(seeds):
     """All runs of the programs."""
-    for some in sessions.runs(seeds):
-        yield console_job(some)
+    for first in range(0, len(seeds), BATCH):
+        yield console_job(seeds[first:first + BATCH])
     step = max(1, len(seeds) // ALONE)
     for turn, seed in enumerate(seeds[::step]):
         yield session_job(seed, turn % 2 == 1)
@@ -134,12 +136,11 @@ def main():
     """The test."""
     parser = argparse.ArgumentParser(description=__doc__)
     parser.add_argument("--sessions", type=int, default=2000, help="how many seeds, from 0")
-    parser.add_argument("--seed", type=int, help="this seed and those before it in its run, without the count of rules")
+    parser.add_argument("--seed", type=int, help="this seed alone, without the count of rules")
     parser.add_argument("--rules", action="store_true", help="print each rule with its count")
     options = parser.parse_args()
     if options.seed is not None:
-        first = options.seed - options.seed % sessions.BATCH
-        print("differential: ok, to seed %d, %d lines" % (options.seed, play(jobs(range(first, options.seed + 1)))))
+        print("differential: ok, seed %d, %d lines" % (options.seed, play(jobs([options.seed]))))
         return 0
     lines = play(jobs(range(options.sessions)))
     if options.rules:

@@ -11,11 +11,11 @@ import sys
 
 ROOT = pathlib.Path(__file__).resolve().parent.parent
 PROOFS = {'Shown': 'all-shown', 'Computed': 'all-computed', 'Edges': 'all-edges', 'Conversation': 'conversed', 'Bounds': 'all-bounds', 'Missing': 'all-missing',
-          'WordsComputed': 'all-words', 'PresetsComputed': 'all-presets', 'PremiseNeeded': 'premise-needed', 'FetchesCounted': 'fetches-counted', 'Packets': 'all-packets', 'Acknowledgements': 'all-acknowledgements'}
+          'WordsComputed': 'all-words', 'Packets': 'all-packets', 'Acknowledgements': 'all-acknowledgements'}
 # crates that hand on what others promise, or promise no more than to end: docs/PROMISES.md, 'Looser promises'
 BESIDE = ('pod', 'line_loop', 'aircraft_loop', 'vectors', 'repeats')
 # the crates that have statements, each with the record that holds all of them
-WHOLE = {'rules': 'Whole', 'examples': 'Examples', 'port_examples': 'PortExamples', 'word_examples': 'WordExamples', 'preset_examples': 'PresetExamples', 'airframe': 'Statements',
+WHOLE = {'rules': 'Whole', 'examples': 'Examples', 'port_examples': 'PortExamples', 'word_examples': 'WordExamples', 'airframe': 'Statements',
          'both_ends': 'Ends', 'aircraft_lines': 'Statements', 'aircraft_answers': 'Statements', 'tolmezha': 'Statements'}
 # a wrong rule with a name, and the facts that fail of it and of no other rule in its edit
 RULE = re.compile(r'^# (\w+): .*\n# refused at: (.*)$', re.M)

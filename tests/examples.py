@@ -6,11 +6,9 @@ from pathlib import Path
 
 sys.path.insert(0, str(Path(__file__).resolve().parent / "second"))
 import airtest
-import presettest
 import selftest
 import wrong
 
 selftest.run()
-presettest.run()
 airtest.run()
 wrong.run()

@@ -133,17 +133,6 @@ PIPE_LINES = [b"O 01 02 03 04 05 06 07 08\n"] * 3 + [b"K\n"] * 9 + [b"T\n", b"I 
     b"O FF FE FD FC FB FA F9\n", b"O" + b" 00" * 9 + b"\n", b"O\n", b"O \n", b"O 0\n", b"K 00\n", b"k\n", b"P 9F 01 05 FB\n",
     b"A 1F" + b" 03FF" * 128 + b"\n", INITIALISE, INITIALISE]
 
-# presets: loads, messages, reads; numbers over 3; words of the other parity, reading, with another N, of commands 13 and 17; what
-# cuts a message
-WORD_LINES = [b"C %04X\nW 000%d\nW 0002\nW 0001\nW %02X5A\n" % (word, table, table * turn)
-              for turn in range(1, 5) for word, table in ((0x0A04, 5), (0x0C04, 6), (0x8E04, 7))]
-WORD_LINES += [b"C %04X\nW %04X\n" % (word, number) for word in (0x1401, 0x9601, 0x1801, 0x9C01, 0x1E01, 0xA001)
-               for number in (0, 1, 2, 3, 0, 1, 2, 3, 4, 0x0102, 0xFFFF)]
-WORD_LINES += [b"C 8201\nW 0001\nC %04X\nR\nR\nR\nR\nR\n" % word for word in (0x4A05, 0x4C05, 0xCE05)] * 4
-WORD_LINES += [b"C %04X\n" % word for word in (0x1401, 0x9C01, 0x1E01, 0x9401, 0x1C01, 0xD401, 0x5601, 0x6001, 0x1402, 0x9501,
-                                              0x9A01, 0x2201, 0x8000, 0x0001)]
-WORD_LINES += [b"R\n", b"S\n", b"Z\n", b"P 9F 01 05 FB\n", b"C 14010\n", b"C 140\n", b"W 3\n", b"c 1401\n"] + [INITIALISE] * 6
-
 
 def random_text(seed, letters, size):
     """Characters of an alphabet at random."""
@@ -173,8 +162,6 @@ def inputs():
     yield "initialise, then anything", INITIALISE + random_text(4, b"PRSTIKODZ 0159AF\n\n\n\n", 300000)
     yield "initialise, then packets out and what cuts them short", INITIALISE + b"".join(
         random.Random(6).choices(PIPE_LINES, k=30000))
-    yield "initialise, then presets and what cuts their messages", INITIALISE + b"".join(
-        random.Random(7).choices(WORD_LINES, k=12000))
 
 
 def buffer_edges():

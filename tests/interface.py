@@ -19,15 +19,13 @@ HERE = Path(__file__).resolve().parent
 sys.path[:0] = [str(HERE), str(HERE / "second")]
 import model
 from airframe.lines import Aircraft, aircraft_line
-from ports.lab import lab_line
 from sheet import aircraft, pictures
 from sheet.camera import Camera
 from sheet.desk import MOST, Desk, checks
 from sheet.exchanges import Exchanges
 from sheet.library import Library
 from sheet.packets import Packets
-from sheet.pages import ROOT, Fault, line_of, number, numbers, plain, tables
-from sheet.presets import Presets
+from sheet.pages import ROOT, Fault, line_of, number, plain, tables
 from sheet.programs import Programs
 from sheet.state import State
 from sheet.words import Words
@@ -36,7 +34,7 @@ SHEET, TROUBLE = "docs/INTERFACE.md", "docs/TROUBLE.md"
 SESSIONS = {"Line": "console", "Line of session": "session", "Line of lab": "lab", "Line of aircraft": "aircraft"}
 # a fresh state and what a line prints, by the second programs
 SECOND = {"console": (model.Pod, model.console_line), "session": (model.Pod, model.session_line),
-          "lab": (model.Pod, lab_line), "aircraft": (Aircraft, aircraft_line)}
+          "aircraft": (Aircraft, aircraft_line)}
 
 
 class Sheet:
@@ -71,13 +69,6 @@ def play(desk, sheet):
             {"console": desk.case, "session": desk.session, "aircraft": desk.aircraft}[SESSIONS[table.head[0]]](where, pairs)
 
 
-def ordered(row, line):
-    """Whether a line is an accepted command word of this row."""
-    word = int(line[2:], 16) if re.fullmatch("C [0-9A-F]{4}", line) else 0
-    way = "reads" if word >> 14 & 1 else "writes"
-    return bin(word).count("1") % 2 and (way, word >> 9 & 31) == (row[1], number(row[0])) and word & 511 in numbers(row[2])
-
-
 def covered(desk, sheet):
     """Every packet, error, refusal, command and letter has a worked example on the sheet."""
     shown = [(line_of(row, 0), line_of(row, 1)) for table in sheet.sessions
@@ -96,43 +87,29 @@ def covered(desk, sheet):
     for row in sheet.take("Letter", "Line", "Call", "Prints"):
         if not any(told[:1] == plain(row[0]) and "!" not in told for _, told in shown):
             desk.fault("%s: there is no worked example of it" % row.where)
-    for row in sheet.take("Command", "Direction", "N", "Word", "Does"):
-        if not any(ordered(row, line) for line, _ in shown):
-            desk.fault("%s: there is no worked example of it" % row.where)
+    if not any(re.search(r"^V .* [1-8] [1-9]\d* [0-9A-F]{4}( \d+){8}$", told) for _, told in shown):
+        desk.fault("%s: there is no worked example of `V` with bytes in hand and an output timeout" % SHEET)
+    if not any(told.startswith("V ") and not told.endswith(" 1 2 3 6 7 0 0 0") for _, told in shown):
+        desk.fault("%s: there is no worked example of `V` with an id struck out of the list" % SHEET)
     for row in sheet.take("Form", "Byte 0", "Byte 1", "Byte 2", "Bytes 3 and 4"):
         if not any(line[5:7] == "%02X" % number(row[2]) and len(line) == 16 and told == "P -" for line, told in shown):
             desk.fault("%s: there is no worked example of it" % row.where)
 
 
-def covered_views(desk, sheet):
-    """The end of the line that shows all has worked examples of each of its parts at work."""
-    told = [line_of(row, 1) for table in sheet.sessions if table.head[0] == "Line of lab" for row in table if row[0] == "`V`"]
-    end = re.compile(r" (\d+) (\d+) [0-9A-F]{4}((?: \d+){8})((?: \d+){12}) [0-9A-F]{4}$")
-    ends = [end.search(line) for line in told]
-    for what, holds in (
-            ("bytes in hand and an output timeout", lambda one: one[1] != "0" != one[2]),
-            ("an id struck out of the list", lambda one: one[3] != " 1 2 3 6 7 0 0 0"),
-            ("a preset that was stored", lambda one: "1" in one[4].split())):
-        if not any(one and holds(one) for one in ends):
-            desk.fault("%s: there is no worked example of `V` with %s" % (SHEET, what))
-
-
 def write():
-    """What the second programs print, written into the sessions."""
+    """What the second programs print, written into the sessions of console, session and aircraft."""
     for page in (SHEET, TROUBLE):
-        text = (ROOT / page).read_text()
-        lines = text.split("\n")
+        lines = (ROOT / page).read_text().split("\n")
         for table in tables(page):
             talk = table.head == aircraft.TALK
             states = {program: fresh() for program, (fresh, _) in SECOND.items()}
-            for row in table.rows if talk or table.head[0] in SESSIONS else ():
+            for row in table.rows if talk or SESSIONS.get(table.head[0], "lab") != "lab" else ():
                 program = plain(row[0]) if talk else SESSIONS[table.head[0]]
                 told = SECOND[program][1](states[program], line_of(row, talk).encode()).decode()
                 if told != line_of(row, talk + 1):
                     cells = row.cells[:talk + 1] + ("`%s`" % told,) + row.cells[talk + 2:]
                     lines[row.number - 1] = "| %s |" % " | ".join(cells)
-        if "\n".join(lines) != text:
-            (ROOT / page).write_text("\n".join(lines))
+        (ROOT / page).write_text("\n".join(lines))
 
 
 def test():
@@ -141,10 +118,9 @@ def test():
     try:
         packets = Packets(desk, sheet.take)
         packets.all()
-        for part in (Exchanges, State, Words, Presets, Camera, Programs, Library, aircraft.AircraftHalf):
+        for part in (Exchanges, State, Words, Camera, Programs, Library, aircraft.AircraftHalf):
             part(desk, sheet.take, packets).all()
-        for part in (play, covered, covered_views, aircraft.covered):
-            checks(desk, lambda: part(desk, sheet))
+        checks(desk, lambda: play(desk, sheet), lambda: covered(desk, sheet), lambda: aircraft.covered(desk, sheet))
         for table in sheet.left():
             desk.fault("%s: no check knows a table with the head: %s" % (table.where, " | ".join(table.head)))
         for name, drawn in pictures.all(sheet.take).items():

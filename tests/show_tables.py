@@ -1,5 +1,5 @@
 #!/usr/bin/env python3
-"""The lines that the program `show_tables` must print, worked out from document 01's section on table words and request No. 6.
+"""The lines that the program `show_tables` must print, worked out from document 01's section on table words.
 
 With no word, compares them with crates/show_tables/stdout; with the word print, prints them.
 """
@@ -10,8 +10,6 @@ from shown import held
 # The words of each table, and where a read starts on a port just started.
 SIZES = {5: 64, 6: 128, 7: 64}
 PLACE = 0
-# 'the ADP messages 10, 11 and 12 .. and 14, 15 and 16 .., each with one data word'
-PRESETS = (10, 11, 12, 14, 15, 16)
 
 
 def accepted(word):
@@ -24,7 +22,7 @@ def accepted(word):
     length = int(digits[7:], 2)
     if command == 0:
         return not reading and length in (0, 1)
-    if command == 1 or command in PRESETS:
+    if command == 1:
         return not reading and length == 1
     if command not in SIZES or length not in range(4, 65):
         return False

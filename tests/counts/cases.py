@@ -50,11 +50,6 @@ READ_64 = bytes([0xCC, 0x40])
 READ_4 = bytes([0xCC, 0x04])
 STARTS = bytes([0x00, 0x01])
 EVEN = NONE = bytes(2)
-# Request No. 6: the command words of table 6, and the numbers of presets that `repeats` has stored and has not.
-STORE_6 = bytes([0x96, 0x01])
-FETCH_6 = bytes([0x1E, 0x01])
-STORED = bytes([0x00, 0x02])
-NEVER = bytes([0x00, 0x03])
 BLOCK = bytes(range(256))
 
 PACKETS = (
@@ -76,16 +71,12 @@ WORDS = (
     Case("data word out", "R", READ_64 + NONE, few=13, many=63),
     Case("data word out, the last of a read of 64", "R", READ_64 + NONE, few=63, many=64),
     Case("data word out, a load is closed", "R", LOAD_64 + NONE, few=0, many=1),
-    Case("command word: a preset of table 6 is fetched", "M", FETCH_6 + STORED, few=101, many=102),
     Case("status word", "S", NONE + NONE),
 )
 # These move whole tables.
 TABLES = (
     Case("command word: tables to their starts, a load is closed", "C", LOAD_64 + STARTS, few=0, many=1),
     Case("data word in, the last of a load of 64", "W", LOAD_64 + NONE, few=63, many=64),
-    Case("data word in: a preset of table 6 is stored", "M", STORE_6 + STORED, few=100, many=101),
-    Case("data word in: a preset of table 6 is fetched", "M", FETCH_6 + STORED, few=100, many=101),
-    Case("data word in: one never stored is fetched", "M", FETCH_6 + NEVER, few=100, many=101),
 )
 OTHERS = (
     Case("put", "B", BLOCK, few=28, many=128),

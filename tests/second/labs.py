@@ -1,29 +1,25 @@
 """Seeded sessions for `lab`: any state, any size, any call, and all that the call leaves.
 
-Sessions of one run go on with one pod, since `Z` keeps the stores' bytes and the presets; no line
-of a session depends on them, so a seed has the same lines alone. For that a session leaves no mark
-over 1 behind.
+Sessions of one run go on with one pod, since `Z` keeps the stores' bytes; no line of a session
+depends on these bytes, so a seed has the same lines alone.
 """
 
 import random
 
 from model import Pod
-from moves import lab, lists, marks, packets
+from moves import lab, lists, packets
 from moves.edges import OUTSIDE
 from ports.bounds import broken
 from ports.lab import PARTS, lab_line
-from ports.refusal import KEPT, LENT
-from ports.sizes import MARKS
+from ports.refusal import LENT
 from sessions import Full
 
 WEIGHTS = {lab.sound: 6, lab.receipt: 2, lab.words_on: 3, lab.reads: 2, lab.pipe: 2, lab.edge: 2, lab.wild: 2,
            lab.lent: 4, lab.call: 3, lab.out_of_range: 2, lab.malformed: 1, packets.initialise: 1,
-           lists.matched: 2, lists.mismatched: 1, lists.one_mark: 1,
-           marks.stale: 2, marks.by_hand: 2, marks.over: 1.5, marks.sized: 1.5}
-LENGTH = 76
-# each call with each thing that it is lent at its exact size, one less and one more, and with presets that it is not lent
+           lists.matched: 2, lists.mismatched: 1, lists.one_mark: 1}
+LENGTH = 70
+# each call with each thing that it is lent at its exact size, one less and one more
 SIZES = [(call, thing, over) for call, lent in LENT.items() for thing in lent if thing != "room" for over in (-1, 1)]
-SIZES += [(call, thing, -1) for call, lent in LENT.items() for thing in KEPT if thing not in lent]
 TURNS = 3       # each session takes so many of the pairs of a bound and a call, of the names, and of SIZES, in turn
 
 
@@ -57,16 +53,9 @@ class Lab:
         lab.call(self)
 
     def mend(self):
-        """Power, where a bound is broken: once more where it was lent something wrong. A mark over 1 is set by hand,
-        since power keeps it."""
+        """Power, where a bound is broken: once more where it was lent something wrong."""
         while broken(self.pod):
             self.say(b"Z")
-        for line in self.unmarked():
-            self.say(line)
-
-    def unmarked(self):
-        """The lines that set each mark over 1 to 0."""
-        return [b"X mark%d 0" % at for at, mark in enumerate(self.pod.presets.marks) if mark > 1]
 
     def move(self):
         """A move of any kind, in a state within the bounds."""
@@ -89,17 +78,12 @@ class Lab:
             self.mend()
             # each place of the list with each of its bits, in turn
             lists.one_bit(self, *divmod(self.seed % 64, 8))
-            # each mark in turn, in every fourth session
-            if self.seed % 4 == 0:
-                marks.over(self, self.seed // 4 % MARKS)
             while True:
                 self.move()
         except Full:
             # the first ends what was lent, and may be refused for it
             self.note(b"Z")
             self.note(b"Z")
-            for line in self.unmarked():
-                self.note(line)
         return self
 
 

@@ -12,7 +12,6 @@ from ports.lines import console_line, session_line
 from ports.output import Output
 from ports.packets import Packets
 from ports.params import Parameters
-from ports.presets import Presets, PresetStore
 from ports.refusal import Rows
 from ports.sizes import ORDINARY, PRIORITY
 from ports.words import Words
@@ -20,14 +19,12 @@ from ports.words import Words
 __all__ = ["Pod", "console_line", "session_line"]
 
 
-class Pod(Rows, Packets, Commands, Parameters, Blocks, Words, Presets, Frames, Output):
-    """The pod with its two stores and three tables, one method for each call. Presets 'outlive Initialise,
-    Shutdown and power', so they may be those of another pod before it."""
+class Pod(Rows, Packets, Commands, Parameters, Blocks, Words, Frames, Output):
+    """The pod with its two stores and three tables, one method for each call."""
 
-    def __init__(self, presets=None):
+    def __init__(self):
         self.lend_right()
         self.stores_new()
-        self.presets = presets or PresetStore()
         self.power_on()
 
     def power(self):
@@ -36,7 +33,6 @@ class Pod(Rows, Packets, Commands, Parameters, Blocks, Words, Presets, Frames, O
         self.forget_transfer("power")
         self.count_forgotten("power")
         self.count_refilled("power")
-        self.count_outlived("power")
         self.power_on()
 
     def power_on(self):
@@ -62,7 +58,5 @@ class Pod(Rows, Packets, Commands, Parameters, Blocks, Words, Presets, Frames, O
 
 
 if __name__ == "__main__":
-    import presettest
     import selftest
     selftest.run()
-    presettest.run()

@@ -183,23 +183,20 @@ def lab_shown():
     memory = " ".join(map(by_bits, (bytes(16 * 256), bytes(128 * 256), bytes(128), bytes(256),
                                     b"".join(bytes((i, 0)) for i in range(64)))))
     starts = "-2000 12000 950 1000 16 2000 0 0 0 0 0 0"
-    never, presets = " ".join("0" * 12), by_bits(bytes(2048))
     pod = Pod()
     talk(pod, "V => V 0 0 0 0 0 0 0 0 0 1000 %s %s 0 0 0 0 0 0 0 0 0 0 -1 0 0 0 0 0 0 FFFF FFFF %s 0 0 FFFF "
-         "1 2 3 6 7 0 0 0 %s %s" % (starts, never, memory, never, presets), lab_line)
+         "1 2 3 6 7 0 0 0" % (starts, " ".join("0" * 12), memory), lab_line)
     sets = """initialised 1 mode 2 flags 3 seconds 4 milliseconds 5 limit0 6 remaining0 7 limit1 8 remaining1 9
         poll 10 param1 11 param2 12 param3 13 param4 14 param5 15 param6 16 param7 17 param8 18 param9 19 param10 20
         param11 21 param12 -22 written1 1 written4 1 written12 1 exchange 148 error 1 place5 26 place6 27 place7 28
         address 29 oldest0 30 waiting0 31 oldest1 32 waiting1 33 gathered 8 timeouts 34 out 9 outtimeouts 35
-        missing0 255 missing1 36 missing2 37 missing3 38 missing4 39 missing5 40 missing6 41 missing7 42
-        mark0 50 mark1 51 mark2 52 mark3 53 mark4 54 mark5 55 mark6 56 mark7 57 mark8 58 mark9 59 mark10 60
-        mark11 255""".split()
+        missing0 255 missing1 36 missing2 37 missing3 38 missing4 39 missing5 40 missing6 41 missing7 42""".split()
     for name, number in zip(sets[::2], sets[1::2]):
         talk(pod, "X %s %s => X" % (name, number), lab_line)
     talk(pod, "X transfer 6 1 23 24 25 => X", lab_line)
     talk(pod, "V => V 1 2 3 4 5 6 7 8 9 10 11 12 13 14 15 16 17 18 19 20 21 -22 1 0 0 1 0 0 0 0 0 0 0 1 148 1 "
-         "6 1 23 24 25 26 27 28 29 30 31 32 33 8 34 %s FFFF %s 9 35 %s 255 36 37 38 39 40 41 42 "
-         "50 51 52 53 54 55 56 57 58 59 60 255 %s" % (by_bits(bytes(8)), memory, by_bits(bytes(8)), presets), lab_line)
+         "6 1 23 24 25 26 27 28 29 30 31 32 33 8 34 %s FFFF %s 9 35 %s 255 36 37 38 39 40 41 42" % (
+             by_bits(bytes(8)), memory, by_bits(bytes(8))), lab_line)
 
 
 def lab_refused():
@@ -233,7 +230,7 @@ def lab_memory():
     """The words of an open load, at most 64; the ring's first place behind its last; bytes that
     power keeps."""
     pod = Pod()
-    shown = lambda: lab_line(pod, b"V").decode().split()[-31:-21]
+    shown = lambda: lab_line(pod, b"V").decode().split()[-18:-8]
     talk(pod, "X initialised 1 => X\n X transfer 5 0 6 2 0 => X\n W 0103 => W", lab_line)
     assert shown()[1] == by_bits(b"\0\0\0\0\x01\x03")
     talk(pod, "X transfer 5 0 6 70 0 => X", lab_line)
@@ -254,7 +251,7 @@ def lab_memory():
 def ids(pod):
     """What Status and V show of the missing ids."""
     told = pod.packet(sealed(b"\x91\x01"))[12:20]
-    assert lab_line(pod, b"V").decode().split()[-21:-13] == [str(id) for id in told]
+    assert lab_line(pod, b"V").decode().split()[-8:] == [str(id) for id in told]
     return list(told)
 
 

@@ -3,9 +3,6 @@
 A session steps the model as it grows, so each move may look at the present state, and each
 line has its expected answer beside it. `python3 sessions.py` makes sessions for the model
 alone and says which rules they reached; `--seed S` prints the lines of one.
-
-Presets outlive power, so sessions of one run go on with the same ones; no line of a session
-depends on them, so a seed has the same lines alone.
 """
 
 import argparse
@@ -14,24 +11,19 @@ import sys
 import time
 
 from model import Pod, console_line
-from moves import bench, output, packets, presets, words, writes
+from moves import bench, output, packets, words, writes
 from ports import labels
-from ports.presets import PresetStore
-
-BATCH = 50          # sessions in one run
 
 # move: weight in a session of no special kind
 WEIGHTS = {
     packets.initialise: 2, packets.initialise_edge: 3, packets.update: 3, packets.update_edge: 3,
     packets.status: 6, bench.sleep: 1, packets.write: 10, packets.write_all_asked: 2, writes.listed: 1,
-    packets.read: 6, packets.read_all: 0.7, packets.fetch: 22, packets.exchange: 4,
+    packets.read: 6, packets.read_all: 0.7, packets.fetch: 20, packets.exchange: 4,
     packets.acknowledge: 8, packets.acknowledge_near: 2, packets.damaged: 5,
     packets.wrong_length: 5, packets.short: 2, packets.second_byte: 3, packets.unknown: 3,
     packets.empty: 2, packets.any_bytes: 2, packets.any_command: 4,
     words.load: 6, words.address: 5, words.read: 5, words.whole_table: 0.3, words.stop: 2,
     words.starts: 1, words.bad_command: 8, words.twin: 1.5, words.stray: 5, words.status_word: 8,
-    presets.any_one: 4, presets.kept: 3, presets.fetched: 0.6, presets.whole: 0.1, presets.beside: 1,
-    presets.over: 1.2, presets.not_accepted: 2, presets.cut: 1.5, presets.asleep: 0.2,
     bench.put: 12, bench.put_few: 3, bench.put_wrong: 2, bench.fill_priority: 0.5,
     bench.fill_ordinary: 0, bench.full_asleep: 0.1, bench.drain: 2, bench.marked: 3, bench.samples: 3,
     bench.bad_samples: 3, bench.pipe_bytes: 5, bench.timeouts: 0.4, bench.timeout: 2,
@@ -49,8 +41,6 @@ KINDS = {
                  bench.power: 0.1, bench.put_few: 3, words.load: 0.3, words.read: 0.3}),
     "words": (18, {words.load: 8, words.read: 6, words.address: 4, words.whole_table: 6,
                    words.starts: 3, packets.initialise: 0.5, bench.sleep: 0.6}),
-    "presets": (14, {presets.any_one: 5, presets.kept: 30, presets.fetched: 18, presets.whole: 8, presets.beside: 12,
-                     presets.over: 8, presets.not_accepted: 15, presets.cut: 8, presets.asleep: 12}),
     "parameters": (8, {packets.write: 8, packets.write_all_asked: 8, writes.listed: 16, packets.read_all: 5,
                        packets.update_edge: 3, packets.initialise_edge: 3}),
     "pipe": (5, {bench.pipe_bytes: 5, bench.timeouts: 20, bench.timeout: 4, bench.samples: 4,
@@ -66,7 +56,7 @@ INTERLUDES = (
     packets.read, packets.acknowledge, packets.damaged, packets.wrong_length, packets.second_byte,
     packets.unknown, packets.empty, packets.any_command, words.stop, words.starts,
     words.bad_command, words.bad_command, words.stray, words.stray, words.status_word, words.status_word,
-    presets.any_one, bench.put, bench.put_wrong, bench.samples, bench.bad_samples, bench.one_pipe_byte,
+    bench.put, bench.put_wrong, bench.samples, bench.bad_samples, bench.one_pipe_byte,
     bench.timeout, output.packet, output.wrong, output.taken, bench.deadline, bench.power, bench.malformed,
 )
 
@@ -78,10 +68,10 @@ class Full(Exception):
 class Session:
     """Lines, the answers the model gives to them, and the model's pod behind them."""
 
-    def __init__(self, seed, held=None):
+    def __init__(self, seed):
         self.seed = seed
         self.rng = random.Random(seed)
-        self.pod = Pod(held)
+        self.pod = Pod()
         self.lines = []
         self.answers = []
         names = list(KINDS)
@@ -134,18 +124,6 @@ def make(seed):
     return Session(seed).grow()
 
 
-def together(seeds):
-    """The sessions of these seeds, for one run with power between them."""
-    held = PresetStore()
-    for seed in seeds:
-        yield Session(seed, held).grow()
-
-
-def runs(seeds):
-    """The seeds of each run."""
-    return (seeds[first:first + BATCH] for first in range(0, len(seeds), BATCH))
-
-
 def main():
     """Sessions for the model alone, or the lines of one."""
     parser = argparse.ArgumentParser(description=__doc__)
@@ -158,10 +136,10 @@ def main():
         return 0
     begin = time.monotonic()
     lines = size = 0
-    for seeds in runs(range(options.sessions)):
-        for session in together(seeds):
-            lines += len(session.lines)
-            size += sum(map(len, session.lines))
+    for seed in range(options.sessions):
+        session = make(seed)
+        lines += len(session.lines)
+        size += sum(map(len, session.lines))
     if options.rules:
         print(labels.table(), end="")
     for label in labels.missing():

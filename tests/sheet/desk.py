@@ -29,8 +29,7 @@ class Desk:
         self.faults.append(text)
 
     def agreed(self, where, pairs, tells, fresh=model.Pod):
-        """The second model's state behind these lines, where it says what the page says; else none, and of one place the first
-        difference is told."""
+        """Whether the second model says what the page says; of one place the first difference is told."""
         state = fresh()
         for line, prints in pairs:
             told = tells(state, line.encode()).decode()
@@ -38,41 +37,34 @@ class Desk:
                 if where not in self.blamed:
                     self.fault("%s: `%s` prints `%s`, and the second model says `%s`" % (where, cut(line), cut(prints), cut(told)))
                 self.blamed.add(where)
-                return None
-        return state
-
-    def play(self, program, where, pairs, alone):
-        """Lines for a pod from power on: behind the others, or in a run of their own."""
-        if alone:
-            self.alone.append((program, where, pairs))
-        else:
-            self.cases[program].append((where, [("Z", "Z")] + list(pairs)))
+                return False
+        return True
 
     def case(self, where, pairs):
         """A session of the console from power on: lines, and what the page says they print."""
-        pod = self.agreed(where, pairs, model.console_line)
-        if pod is not None:
-            self.play("console", where, pairs, presets_left(pod))
+        if self.agreed(where, pairs, model.console_line):
+            self.cases["console"].append((where, [("Z", "Z")] + list(pairs)))
 
     def lab(self, where, pairs, alone=False):
         """A session of lab from power on, left out as long as there is no such program. One that shows the bytes of the
         stores, which power on keeps, is played alone."""
-        pod = self.agreed(where, pairs, lab_line)
-        if pod is None:
+        if not self.agreed(where, pairs, lab_line):
             return
         if not self.has_lab:
             self.skipped += len(pairs)
+        elif alone:
+            self.alone.append(("lab", where, pairs))
         else:
-            self.play("lab", where, pairs, alone or presets_left(pod))
+            self.cases["lab"].append((where, [("Z", "Z")] + list(pairs)))
 
     def session(self, where, pairs):
         """A session of the packet program, in a run of its own."""
-        if self.agreed(where, pairs, model.session_line) is not None:
+        if self.agreed(where, pairs, model.session_line):
             self.alone.append(("session", where, pairs))
 
     def aircraft(self, where, pairs):
         """Lines of the program aircraft, from nothing on its way."""
-        if self.agreed(where, pairs, aircraft_line, Aircraft) is not None:
+        if self.agreed(where, pairs, aircraft_line, Aircraft):
             self.cases["aircraft"].append((where, OVER + list(pairs)))
 
     def finish(self):
@@ -94,11 +86,6 @@ class Desk:
             if came != prints and where not in self.blamed:
                 self.blamed.add(where)
                 self.fault("%s: `%s` prints `%s`, and %s prints `%s`" % (where, cut(line), cut(prints), program, cut(came)))
-
-
-def presets_left(pod):
-    """Whether a session has left presets behind, which power on keeps: it is played alone, so every other begins with none."""
-    return any(pod.presets.marks) or any(pod.presets.words)
 
 
 def run(program, text, **options):

@@ -12,7 +12,6 @@ def all(take):
     drawn = {name: frame(title, take("Bits", "Shows", "In the guide", heading=title)) for name, title in frames.items()}
     drawn["exchange.svg"] = exchange(take("What comes", "Answer", "Exchange", "Block"))
     drawn["transfer.svg"] = transfer(take("Word", "Is", "Of a load, right when"),
-                                     take("Message", "Number", "Preset", "Table", "Preset's words", "Mark", "Message error"),
                                      take("What comes", "Message error", "Open transfer"))
     drawn["crates.svg"] = layers()
     return drawn
@@ -72,67 +71,33 @@ def said(row, what, kind):
     return "%s: %s; the block is %s" % (what, answer, row[3])
 
 
-def transfer(words, messages, errors):
-    """A load, a read and the message of a preset from left to right, and what cuts them short."""
+def transfer(words, errors):
+    """A load and a read from left to right, and what cuts them short."""
     cuts = [row[0] for row in errors if row[1] == "set" and row[2] in ("closes", "closes, then its own opens")
-            and not row[0].startswith(("the last word", "the number of a preset"))]
-    picture = Picture(1060, 640 + 20 * len(cuts), "A transfer")
+            and "last word" not in row[0]]
+    picture = Picture(1060, 470 + 20 * len(cuts), "A transfer")
     for top, name, letter, verb in ((20, "a load", "W", "written"), (250, "a read", "R", "given")):
-        begun(picture, top, name)
+        picture.text(20, top + 20, name, 16, INK, "start", bold=True)
+        picture.box(20, top + 36, 130, 56, GREEN)
+        picture.centred(85, top + 64, "command word, accepted", 116)
         for at, row in enumerate(words):
             x = 180 + at * 170
+            picture.path([(x - 28, top + 64), (x - 3, top + 64)], arrow=True)
+            picture.box(x, top + 36, 140, 56, BLUE)
             label = "words %s" % row[0] if " to " in row[0] else "word %s" % row[0]
-            below = word(picture, x, top, label, "%s (%s)" % (verb, letter), row[1])
+            picture.text(x + 70, top + 60, label, 13, INK, bold=True)
+            picture.text(x + 70, top + 80, "%s (%s)" % (verb, letter), 11, SOFT)
+            below = picture.block(x + 70, top + 112, row[1], 146, 12)
             if letter == "W" and row[2] != "always":
                 picture.block(x + 70, below + 6, "right when " + row[2], 146, 11, SOFT)
-        ended(picture, 860, top, "judged with its last word" if letter == "W" else "done with its last word")
+        picture.path([(832, top + 64), (857, top + 64)], arrow=True)
+        picture.box(860, top + 36, 180, 56, SAND)
+        picture.centred(950, top + 64, "judged with its last word" if letter == "W" else "done with its last word", 166)
         if letter == "W":
             below = picture.block(950, top + 112, "right: the addressed words are stored, and no other", 180, 12)
             picture.block(950, below + 6, "not right: nothing is stored, and message error is set", 180, 12, RED)
-    preset(picture, 410, messages)
-    picture.path([(20, 570), (1040, 570)], LINE, width=1)
-    short = "Cut short before its last word: nothing is stored or fetched, and message error is set. It is cut by"
-    picture.text(20, 598, short, 13, RED, "start")
+    picture.path([(20, 400), (1040, 400)], LINE, width=1)
+    picture.text(20, 428, "Cut short before its last word: nothing is stored, and message error is set. It is cut by", 13, RED, "start")
     for at, cut in enumerate(cuts):
-        picture.text(40, 624 + 20 * at, cut, 12, INK, "start")
+        picture.text(40, 454 + 20 * at, cut, 12, INK, "start")
     return picture.drawn()
-
-
-def begun(picture, top, name):
-    """The name of a lane, and its command word."""
-    picture.text(20, top + 20, name, 16, INK, "start", bold=True)
-    picture.box(20, top + 36, 130, 56, GREEN)
-    picture.centred(85, top + 64, "command word, accepted", 116)
-
-
-def word(picture, x, top, label, verb, text):
-    """A data word, and what it is; gives the place below that."""
-    picture.path([(x - 28, top + 64), (x - 3, top + 64)], arrow=True)
-    picture.box(x, top + 36, 140, 56, BLUE)
-    picture.text(x + 70, top + 60, label, 13, INK, bold=True)
-    picture.text(x + 70, top + 80, verb, 11, SOFT)
-    return picture.block(x + 70, top + 112, text, 146, 12)
-
-
-def ended(picture, x, top, text):
-    """The end of a lane."""
-    picture.path([(x - 28, top + 64), (x - 3, top + 64)], arrow=True)
-    picture.box(x, top + 36, 180, 56, SAND)
-    picture.centred(x + 90, top + 64, text, 166)
-
-
-def preset(picture, top, messages):
-    """The message of a preset, and beside it what each row of its table does."""
-    begun(picture, top, "the message of a preset")
-    word(picture, 180, top, "word 1", "written (W)", "the number of a preset, 0 to 3")
-    ended(picture, 350, top, "done with that word")
-    for at, row in enumerate(row for row in messages if not row[1].startswith("none")):
-        which = ", ".join([row[0], row[1]] + [row[2]] * (row[2] != "any"))
-        picture.text(550, top + 42 + 24 * at, "%s: %s" % (which, done(row)), 12, RED if row[6] == "set" else INK, "start")
-
-
-def done(row):
-    """What a message does, by the cells of its row that are not kept."""
-    becomes = ["the %s becomes %s" % (what, row[at]) for what, at in (("table", 3), ("preset", 4)) if row[at] != "kept"]
-    becomes += ["its mark %s" % row[5]] * (row[5] != "kept")
-    return ", ".join(becomes) or "nothing is stored or fetched, and message error is set"

@@ -20,7 +20,7 @@ ITEMS = re.compile(r"\$ printf '(.*)' \| \./run session\n((?:    .*\n)+)")
 NAMES = "initialised mode flags seconds milliseconds poll error timeouts gathered out outtimeouts".split()
 NAMES += [part + store for store in "01" for part in ("limit", "remaining", "oldest", "waiting")]
 NAMES += [part + str(id) for part in ("param", "written") for id in range(1, 13)] + ["missing%d" % at for at in range(8)]
-NAMES += ["place5", "place6", "place7", "address"] + ["mark%d" % at for at in range(12)]
+NAMES += ["place5", "place6", "place7", "address"]
 
 
 class Programs(Part):
@@ -77,7 +77,7 @@ class Programs(Part):
         table = self.take("Letter of lab", "Line", "Does", "Prints")
         if table.column(0) != ["X", "L", "V"] or any(not row[at].startswith(row[0]) for row in table for at in (1, 3)):
             table.rows[0].fault("the letters of lab are not X L V, each before its line and what it prints")
-        sizes = {"room": 260, "p": 4096, "o": 32768, "5": 64, "6": 128, "7": 64, "presets": 1024, "marks": 12}
+        sizes = {"room": 260, "p": 4096, "o": 32768, "5": 64, "6": 128, "7": 64}
         lent = self.take("Name for L", "Right size", "Largest")
         if lent.column(0) != list(sizes):
             lent.rows[0].fault("what lab lends is not: %s" % ", ".join(sizes))
@@ -95,11 +95,10 @@ class Programs(Part):
         for row in table:
             least, most = number(row[1]), number(row[2])
             for name in names(row[0]):
-                # the least comes last: power on keeps the mark of a preset
                 self.desk.lab(row.where, [("X %s %d" % (name, value), told) for value, told in (
-                    (most, "X"), (least - 1, "?"), (most + 1, "?"), (least, "X"))])
+                    (least, "X"), (most, "X"), (least - 1, "?"), (most + 1, "?"))])
         self.desk.lab(row.where, [("X %s 0" % name, "?") for name in (
-            "limit2", "param0", "param13", "written13", "missing", "missing8", "place4", "place8", "mark", "mark12", "Mode", "")])
+            "limit2", "param0", "param13", "written13", "missing", "missing8", "place4", "place8", "Mode", "")])
 
     def check_readme(self):
         """README's session."""

@@ -7,7 +7,6 @@ import model
 from ports.blocks import CAPACITY
 from ports.lines import FORMS
 from ports.packets import sealed
-from ports.refusal import KEPT, RIGHT
 from ports.words import SIZES, tables_at_start
 
 from .desk import Part, checks
@@ -19,12 +18,10 @@ GOOD = {"D": "D", "B": "B p" + BLOCK, "C": "C 8000", "W": "W 0005", "R": "R", "S
         "I": "I 44", "T": "T", "O": "O 01 02 03 04 05 06 07 08", "K": "K", "Z": "Z"}
 # thing: (its name in lab, a size that is wrong, the refusal)
 LENT = {"room": ("room", 259, "1"), "priority store": ("p", 4095, "2"), "ordinary store": ("o", 32769, "2"),
-        "table 5": ("5", 63, "2"), "table 6": ("6", 129, "2"), "table 7": ("7", 65, "2"),
-        "preset store": ("presets", 1023, "2"), "preset marks": ("marks", 13, "2")}
+        "table 5": ("5", 63, "2"), "table 6": ("6", 129, "2"), "table 7": ("7", 65, "2")}
 # what the functions call the things that they are lent
 THINGS = {"room": "room", "priority": "stores", "ordinary": "stores", "five": "tables", "six": "tables", "seven": "tables",
-          "store": "that store", "block": "a block", "load": "the words of a load", "set": "a sample set",
-          "kept": "preset store", "marks": "preset marks"}
+          "store": "that store", "block": "a block", "load": "the words of a load", "set": "a sample set"}
 OTHER = {**VALUES, "mode": 3, "flags": 9, "time": (5, 6), "priority limit": 7, "priority remaining": 6,
          "memory limit": 8, "memory remaining": 5, "poll": 11}
 PARTS = {"limits": "limit", "remainings": "remaining", "open exchange": "exchange", "waiting blocks": "waiting",
@@ -37,11 +34,6 @@ PARTS = {"limits": "limit", "remainings": "remaining", "open exchange": "exchang
 SAID = {"timeouts": "input timeouts", "out": "in hand", "outtimeouts": "output timeouts"}
 # what the model keeps beside the state: the memory that is lent, at which sizes, and what its counts go by
 BESIDE = {"memory", "sizes", "late", "updated", "emptied"}
-
-
-def parts_of(pod):
-    """The parts of the second model's pod, by their names; of the presets what is lent."""
-    return {**vars(pod), "presets": (pod.presets.words, pod.presets.marks)}
 
 
 def borrowed(function):
@@ -85,14 +77,12 @@ class State(Part):
         most = max(number(row[4]) for row in self.packets.commands)
         sizes = {"room": most, "priority store": 256 * CAPACITY[0x95], "ordinary store": 256 * CAPACITY[0x96]}
         sizes.update({"table %d" % which: size for which, size in SIZES.items()})
-        sizes.update(zip(("preset store", "preset marks"), (RIGHT[thing] for thing in KEPT)))
         sizes.update({"block": 256, "sample set": 128, "words of a load": 64})
         if table.column(0) != list(sizes):
             table.rows[0].fault("what is lent is not: %s" % ", ".join(sizes))
         starts = {"starts with every word 0": lambda at: 0, "starts with word i at 256 times i": lambda at: 256 * at}
         for row in table:
-            words = row[0].startswith(("table", "words")) or row[0] == "preset store"
-            unit = "words" if words else "numbers" if row[0] == "sample set" else "bytes"
+            unit = "words" if row[0].startswith(("table", "words")) else "numbers" if row[0] == "sample set" else "bytes"
             if (number(row[1]), row[2]) != (sizes[row[0]], unit):
                 row.fault("its size is %d %s" % (sizes[row[0]], unit))
             if row[0].startswith("table"):
@@ -106,9 +96,7 @@ class State(Part):
         used = sorted({one for row in self.calls for one in row[4].split()}, key=int)
         if listed != used:
             self.refusals.rows[0].fault("the calls have the refusals %s" % " ".join(used))
-        named = {"1": ["260"], "2": ["preset store", "preset marks"], "3": ["preset mark is over 1"], "4": ["256", "128"],
-                 "5": ["1,023", "31"], "22": ["8"]}
-        for one, texts in named.items():
+        for one, texts in {"1": ["260"], "4": ["256", "128"], "5": ["1,023", "31"], "22": ["8"]}.items():
             for text in texts:
                 if text not in self.refusals.rows[listed.index(one)][1]:
                     self.refusals.rows[listed.index(one)].fault("%s is not named" % text)
@@ -223,7 +211,6 @@ class State(Part):
                 (["transfer 6 1 64 0 67"], "D"), (["transfer 6 1 64 0 68"], "D !3"), (["transfer 6 1 65 0 0"], "D !3"),
                 (["transfer 1 0 1 0 0"], "D"), (["exchange 145"], "D"), (["exchange 145", "initialised 0"], "D !3"),
                 (["transfer 1 0 1 0 0", "initialised 0"], "D !3"), (["initialised 0"], "D"),
-                (["transfer 10 0 1 0 0"], "D"), (["transfer 16 0 1 0 0"], "D"), (["transfer 14 0 1 0 0", "initialised 0"], "D !3"),
                 (["missing4 0"], "D !3"), (["missing5 1"], "D !3"), (["missing0 2", "missing1 1"], "D !3"),
                 (["written7 1"], "D !3"), (["written7 1", "missing4 0"], "D"), (["written7 0", "written8 1"], "D")):
             self.desk.lab(where, [self.packets.begin()] + [("X " + one, "X") for one in sets] + [("D", told)])
@@ -235,13 +222,13 @@ class State(Part):
         odd = set(parts) ^ (set(vars(model.Pod())) - BESIDE)
         if odd:
             table.rows[0].fault("the parts are not those of the second model: %s" % ", ".join(sorted(odd)))
-        fresh = parts_of(model.Pod())
+        fresh = vars(model.Pod())
         packet = {"mode": 3, "flags": 9, "seconds": 5, "milliseconds": 6, "poll": 11,
                   "limit": {0x95: 7, 0x96: 8}, "remaining": {0x95: 6, 0x96: 5}}
         events = [b"Z"] + [asked(self.packets.packet(code, OTHER)).encode() for code in (0x90, 0x92, 0x9F)]
         for row, part in zip(table, parts):
             starts = {"no": [False], "0": [0, {0x95: 0, 0x96: 0}, {5: 0, 6: 0, 7: 0}], "1,000": [1000], "their starts": [fresh[part]]}
-            starts["1 2 3 6 7 0 0 0"], starts["none stored"] = [[1, 2, 3, 6, 7, 0, 0, 0]], [([0] * 1024, [0] * 12)]
+            starts["1 2 3 6 7 0 0 0"] = [[1, 2, 3, 6, 7, 0, 0, 0]]
             starts["none"] = [None, set(), b""] + [fresh[part]] * (part == "waiting" and not any(fresh[part].values()))
             if fresh[part] not in starts[row[1]]:
                 row.fault("it starts otherwise")
@@ -250,11 +237,10 @@ class State(Part):
                     before = self.used(error, transfer)
                     after = copy.deepcopy(before)
                     model.console_line(after, line)
-                    now = parts_of(after)[part]
-                    meant = {"start": fresh[part], "kept": parts_of(before)[part], "packet": packet.get(part), "no": False,
+                    meant = {"start": fresh[part], "kept": vars(before)[part], "packet": packet.get(part), "no": False,
                              "yes": True, "set if a transfer was open": error or transfer}[row[at]]
-                    if now != meant and not (part == "transfer" and row[at] == "kept" and now):
-                        row.fault("%s: in the second model it becomes %s" % (table.head[at], now))
+                    if vars(after)[part] != meant and not (part == "transfer" and row[at] == "kept" and vars(after)[part]):
+                        row.fault("%s: in the second model it becomes %s" % (table.head[at], vars(after)[part]))
 
     def used(self, error, transfer):
         """A model's pod with nothing at its start."""
@@ -263,7 +249,7 @@ class State(Part):
         lines = [asked(self.packets.packet(0x90, VALUES)), *["B p" + BLOCK] * 2, *["B o" + BLOCK] * 2, *dropped,
                  GOOD["O"], "I 55", "T", GOOD["O"], "K", "I 56",
                  asked(self.packets.packet(0x93, {"id": 3, "value": 500})),
-                 "C 0A04", "W 0005", "W 0000", "W 0001", "W 7777", "C 1401", "W 0002", "C CA04", "R", "R", "R", "R", "C 8201", "W 0009"]
+                 "C 0A04", "W 0005", "W 0000", "W 0001", "W 7777", "C CA04", "R", "R", "R", "R", "C 8201", "W 0009"]
         lines += ["C 0C04"] if transfer else ["C 0000"] if error else []
         for line in lines + [asked(self.packets.packet(0x95))]:
             model.console_line(pod, line.encode())

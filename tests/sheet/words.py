@@ -12,8 +12,6 @@ from .pages import number, numbers, plain
 READ = 0x4000
 # a load of table 5, N 5, that is right: two words at address 10; a read of it; the address 10
 LOAD, WORDS = "C 8A05", ["W 0005", "W 000A", "W 0002", "W 1111", "W 2222"]
-# the messages that store table 5 and fetch it, before the number of a preset
-STORE, FETCH = "C 1401", "C 9C01"
 
 
 def silent(*lines):
@@ -112,8 +110,7 @@ class Words(Part):
             pod.command_word(word)
             if pod.message_error == (word in accepted):
                 table.rows[0].fault("%04X is %saccepted" % (word, "not " * pod.message_error))
-        near = {self.word(way, command, n) for way in (0, 1) for command in range(32) for n in (0, 1, 2, 3, 4, 64, 65, 257, 511)}
-        some = [word for word in range(65536) if word in accepted or word in near or word % 97 == 0 or word ^ 0x8000 in accepted]
+        some = [word for word in range(65536) if word in accepted or word % 97 == 0 or word ^ 0x8000 in accepted]
         pairs = [self.packets.begin()]
         for word in some:
             told = "S 0000" if word in accepted else "S 0002"
@@ -160,44 +157,34 @@ class Words(Part):
         return pairs + [("R", "R %04X" % word) for word in [which, first, count] + now[first:first + count]] + [("S", "S 0000")]
 
     def check_error(self):
-        """What sets, keeps or clears message error, and what is open then: a load, and the messages of a preset, each as far
-        as it can be."""
+        """What sets, keeps or clears message error, and what is open then."""
         table = self.take("What comes", "Message error", "Open transfer")
-        load = silent(LOAD, *WORDS[:2])
-        comes = self.comes(load)
-        if table.column(0) != list(comes):
-            table.rows[0].fault("what comes is not: %s" % "; ".join(comes))
-        for opened in (load, silent(STORE), silent(FETCH)):
-            for row in table:
-                before, event = self.comes(opened)[row[0]]
-                if opened == load or before[1:] == opened:
-                    self.case_error(row, before, event)
-
-    def comes(self, opened):
-        """What comes: the lines before it and its own. Where it doesn't matter what is open, these lines have opened it."""
         begin, shut = self.packets.begin(), (asked(self.packets.packet(0x9F)), self.packets.success(0x9F))
-        some, read = [begin] + opened, [begin] + silent("C 4A06")
-        return {
-            "a command word with an even count of ones": (some, silent("C 0A05")),
-            "a command word that is not in the table": (some, silent("C 0403")),
+        load, read = silent(LOAD, *WORDS[:2]), silent("C 4A06")
+        comes = {
+            "a command word with an even count of ones": ([begin] + load, silent("C 0A05")),
+            "a command word that is not in the table": ([begin] + load, silent("C 0403")),
             "a command word while not initialised": ([], silent("C 8000")),
             "a read that would pass its table's end": ([begin] + silent("C 8201", "W 0040", LOAD), silent("C 4A06")),
             "an accepted command word with no transfer open": ([begin], silent(LOAD)),
-            "an accepted command word while a transfer is open": (some, silent(LOAD)),
+            "an accepted command word while a transfer is open": ([begin] + load, silent(LOAD)),
             "the last word of a load that is right": ([begin] + silent(LOAD, *WORDS[:4]), silent(WORDS[4])),
             "the last word of a load that is not right": ([begin] + silent(LOAD, *["W 0006"] * 4), silent("W 0006")),
-            "any other word of a load or read": ([begin] + silent(LOAD, WORDS[0]), silent(WORDS[1])),
+            "any other word of a load or read": ([begin] + load, silent(WORDS[2])),
             "the data word of command 1": ([begin] + silent("C 8201"), silent("W 0000")),
-            "the number of a preset, 0 to 3": ([begin] + silent(FETCH), silent("W 0003")),
-            "the number of a preset, over 3": ([begin] + silent(STORE), silent("W 0102")),
-            "the last word of a read": (read + [("R", None)] * 5, [("R", "R 0000")]),
-            "a data word in with no load open, and no address or preset number awaited": (read, silent("W 0003")),
-            "a data word out with no read open; it reads as 0": (some, [("R", "R 0000")]),
-            "the status word": (some, [("S", None)]),
-            "Shutdown while a transfer is open": (some, [shut]),
-            "an accepted Initialise": (some, [begin]),
-            "power on": (some, silent("Z")),
-            "any other call": (some, silent("D") + [("O 01 02 03 04 05 06 07 08", "O 01"), ("K", "K 02"), ("T", "T -")])}
+            "the last word of a read": ([begin] + read + [("R", None)] * 5, [("R", "R 0000")]),
+            "a data word in with no load and no address awaited": ([begin] + read, silent("W 0005")),
+            "a data word out with no read open; it reads as 0": ([begin] + load, [("R", "R 0000")]),
+            "the status word": ([begin] + load, [("S", None)]),
+            "Shutdown while a transfer is open": ([begin] + load, [shut]),
+            "an accepted Initialise": ([begin] + load, [begin]),
+            "power on": ([begin] + load, silent("Z")),
+            "any other call": ([begin] + load, silent("D") + [("O 01 02 03 04 05 06 07 08", "O 01"), ("K", "K 02"), ("T", "T -")])}
+        if table.column(0) != list(comes):
+            table.rows[0].fault("what comes is not: %s" % "; ".join(comes))
+        for row in table:
+            before, event = comes[row[0]]
+            self.case_error(row, before, event)
 
     def case_error(self, row, before, event):
         """With message error clear before, and where that is possible with it set."""

@@ -3,7 +3,7 @@
 use Rattle.std.specs.Prelude.{◌≡◌, false, cond}
 use Rattle.rows.specs.Rows.{out}
 use Rattle.packets.specs.declared.Command.{Command}
-use Rattle.presets.specs.Tables.{starts}
+use Rattle.tables.specs.Tables.{starts}
 use Rattle.rules.specs.declared.Obeyed.{Obeyed}
 use Rattle.rules.specs.declared.Pod.{Pod}
 use Rattle.rules.specs.declared.Reply.{Reply}

@@ -1,7 +1,7 @@
 // What a command does to the pod: checks 7 to 9, and no bytes. A function by value for each command, with its checks in their order.
 ghost use Rattle.std.specs.Prelude.{◌≡◌, true, cond};
 ghost use Rattle.rows.specs.Rows.{out};
-ghost use Rattle.presets.specs.Tables.{starts};
+ghost use Rattle.tables.specs.Tables.{starts};
 ghost use Rattle.rules.specs.State.{Lent, with_tables, sound_pod};
 ghost use Rattle.rules.specs.Obey.{reply_said, receives, obey_of, report_of};
 ghost use Rattle.commands.specs.Does.{obeyed, Does};

@@ -9,8 +9,7 @@ use Rattle.params.specs.Rules.{is_id, in_rows, filter, missing_ids, missing_of, 
 use Rattle.blocks.specs.Stores.{store_sized, sound_ring}
 use Rattle.tables.specs.Bounds.{sound_places, sound_transfer, sound_words}
 use Rattle.tables.specs.Port.{start_words}
-use Rattle.presets.specs.Tables.{listed, start_table, tables_sized}
-use Rattle.presets.specs.Presets.{presets_sized, marks_right}
+use Rattle.tables.specs.Tables.{listed, start_table, tables_sized}
 use Rattle.pipe.specs.Input.{empty_input, fresh_input, sound_input}
 use Rattle.pipe.specs.Output.{fresh_output, sound_output}
 use Rattle.pipe.specs.Pipe.{fresh_pipe, sound_pipe}
@@ -26,11 +25,11 @@ unfolding start_params
 all-starts = refl
 
 pub all-values : AsExpected values_bounded
-unfolding ran is_id in_rows filter missing_ids missing_of same_list list_kept sound_params start_params struck write_allowed sound_ring sound_places sound_transfer sound_words start_words tables_sized presets_sized marks_right empty_input fresh_input sound_input fresh_output sound_output fresh_pipe sound_pipe power_call lone_call fresh_fields fresh_pod restful sound_pod fields_bounded step
+unfolding ran is_id in_rows filter missing_ids missing_of same_list list_kept sound_params start_params struck write_allowed sound_ring sound_places sound_transfer sound_words start_words tables_sized empty_input fresh_input sound_input fresh_output sound_output fresh_pipe sound_pipe power_call lone_call fresh_fields fresh_pod restful sound_pod fields_bounded step
 all-values = refl
 
 pub all_rest : AsExpected bounds
-unfolding ran in_rows filter missing_ids missing_of same_list list_kept sound_params start_params store_sized sound_ring sound_places sound_transfer sound_words start_words listed start_table tables_sized presets_sized marks_right empty_input fresh_input sound_input fresh_output sound_output fresh_pipe sound_pipe bounded_of packet_read packet_heard spoken_bytes answered power_call packet_call lone_call samples_call fresh_fields fresh_pod restful sound_pod fields_bounded step
+unfolding ran in_rows filter missing_ids missing_of same_list list_kept sound_params start_params store_sized sound_ring sound_places sound_transfer sound_words start_words listed start_table tables_sized empty_input fresh_input sound_input fresh_output sound_output fresh_pipe sound_pipe bounded_of packet_read packet_heard spoken_bytes answered power_call packet_call lone_call samples_call fresh_fields fresh_pod restful sound_pod fields_bounded step
 all_rest = refl
 
 pub all-bounds : Bounds

@@ -28,9 +28,8 @@ use Rattle.params.specs.Rules.{is_id, in_rows, filter, missing_ids, missing_of, 
 use Rattle.blocks.specs.Stores.{store_sized, sound_ring, place_behind, block_at, blocks_from, blocks_in, oldest_of, put_ring, put_store, dropped_ring}
 use Rattle.tables.specs.Bounds.{sound_places, sound_transfer, sound_words}
 use Rattle.orders.specs.Command.{odd_ones, parts_of, order_of, order_heard}
-use Rattle.tables.specs.Port.{header, start_words, close_of, read_opened_at, read_opened, restarted, order_obeyed, tables_after, command_of, wrong_way, load_right, stored_in, load_judged, load_of, preset_desk, preset_of, word_taken, data_in_of, read_word, read_next, word_given, data_out_of, status_of}
-use Rattle.presets.specs.Tables.{Three, listed, start_table, tables_sized}
-use Rattle.presets.specs.Presets.{presets_sized, marks_right, fetched, preset_stored, preset_moved}
+use Rattle.tables.specs.Port.{header, start_words, close_of, read_opened_at, read_opened, restarted, order_obeyed, tables_after, command_of, wrong_way, load_right, stored_in, load_judged, load_of, word_taken, data_in_of, read_word, read_next, word_given, data_out_of, status_of}
+use Rattle.tables.specs.Tables.{Three, listed, start_table, tables_sized}
 use Rattle.pipe.specs.Input.{held_in, sent_packet, sent_bytes, empty_input, fresh_input, gathers, pipe_byte, count_up, pipe_timeout, sound_input, gathering_of}
 use Rattle.pipe.specs.Output.{held_out, fresh_output, output_packet, output_taken, output_timeout, sound_output, busy_of}
 use Rattle.pipe.specs.Pipe.{fresh_pipe, sound_pipe}
@@ -38,14 +37,14 @@ use Rattle.frames.specs.Fields.{placed, frame}
 use Rattle.frames.specs.Layout.{lines03, lines47, frames_of}
 use Rattle.frames.specs.Samples.{sample_at, sum_of, average_of, averages_of, bounded_of}
 use Rattle.rules.specs.Calls.{power_call, packet_heard, meant_body, reply_bytes, spoken_bytes, answered, packet_call, put_call, word_call, lone_call, samples_call}
-use Rattle.rules.specs.Families.{WordCall, command, data_in, data_out, status, byte, timeout, packet_out, taken, word_of, word_lent, word_state, pipe_of, deadline, pipe, lone_of}
+use Rattle.rules.specs.Families.{WordCall, command, data_in, data_out, status, byte, timeout, packet_out, taken, word_of, word_lent, pipe_of, deadline, pipe, lone_of}
 use Rattle.rules.specs.History.{succeeded, errored, event_of, events}
 use Rattle.rules.specs.Obey.{checks_of, initialised_pod, done_by, obey_of, matches, drop_from, settled, acknowledged_of, report_of}
-use Rattle.examples.specs.Shown.{never_stored, order, loading, reading, load, just_initialised}
+use Rattle.examples.specs.Shown.{order, loading, reading, load, just_initialised}
 use Rattle.rules.specs.State.{fresh_fields, fresh_pod, restful, sound_pod}
 use Rattle.rules.specs.Transfers.{Loads, Loading, Reads, cuts_load, cuts_read, cuts, left_open, written_in, reads_in}
 use Rattle.rules.specs.World.{World, Call, power, packet, put, word, lone, samples, Told, next, step, final, tells}
-use Rattle.rules.specs.Pairs.{kept_of, Accepts, ShutsDown, Seen, seen_in, Asleep}
+use Rattle.rules.specs.Pairs.{Accepts, ShutsDown, Seen, seen_in, Asleep}
 use Rattle.rules.specs.Checks.{damaged}
 use Rattle.examples.specs.Edges.{Edges}
 use Rattle.examples.proofs.Edges.{all_edges}
@@ -84,7 +83,6 @@ seen_both on =
       words = start_words;
       pipe = fresh_pipe;
       sizes = record { priority = 4096; ordinary = 32768; five = 64; six = 128; seven = 64; load = 64 };
-      kept = kept_of never_stored;
     }
 
 -- calls that leave a transfer open, a word of it coming between them three times: a packet answered, one damaged, one refused, an
@@ -148,7 +146,7 @@ pub record NotEmpty : Type 0 where
   pub numbers : Edges
 
 pub not_empty : NotEmpty
-unfolding ones ran poly leaving bit_in bits bits_in crc_from crc_of with_crc answer_of error_answer status_body value_body field_bytes body_of command_bytes laid_out numbers_at fields_of fields_in fields_bounded find_in listed_in code_row is_code command_place command_row high_first number_of number_at signed_of unsigned_of crc_right acknowledges packet_read is_id in_rows filter missing_ids missing_of same_list list_kept sound_params start_params struck write_allowed store_sized sound_ring place_behind block_at blocks_from blocks_in oldest_of put_ring put_store dropped_ring sound_places sound_transfer sound_words odd_ones parts_of order_of order_heard start_words close_of read_opened_at read_opened restarted order_obeyed tables_after command_of wrong_way load_right stored_in load_judged load_of fetched preset_stored preset_moved preset_desk preset_of word_taken data_in_of read_word read_next word_given data_out_of status_of listed start_table tables_sized presets_sized marks_right held_in sent_packet sent_bytes empty_input fresh_input gathers pipe_byte count_up pipe_timeout sound_input gathering_of held_out fresh_output output_packet output_taken output_timeout sound_output busy_of fresh_pipe sound_pipe placed frame lines03 lines47 frames_of sample_at sum_of average_of averages_of bounded_of power_call packet_heard meant_body reply_bytes spoken_bytes answered packet_call put_call word_call lone_call samples_call word_of word_lent word_state pipe_of lone_of succeeded errored event_of events checks_of initialised_pod done_by obey_of matches drop_from settled acknowledged_of report_of just_initialised fresh_fields fresh_pod restful sound_pod cuts left_open written_in reads_in step final tells
+unfolding ones ran poly leaving bit_in bits bits_in crc_from crc_of with_crc answer_of error_answer status_body value_body field_bytes body_of command_bytes laid_out numbers_at fields_of fields_in fields_bounded find_in listed_in code_row is_code command_place command_row high_first number_of number_at signed_of unsigned_of crc_right acknowledges packet_read is_id in_rows filter missing_ids missing_of same_list list_kept sound_params start_params struck write_allowed store_sized sound_ring place_behind block_at blocks_from blocks_in oldest_of put_ring put_store dropped_ring sound_places sound_transfer sound_words odd_ones parts_of order_of order_heard start_words close_of read_opened_at read_opened restarted order_obeyed tables_after command_of wrong_way load_right stored_in load_judged load_of word_taken data_in_of read_word read_next word_given data_out_of status_of listed start_table tables_sized held_in sent_packet sent_bytes empty_input fresh_input gathers pipe_byte count_up pipe_timeout sound_input gathering_of held_out fresh_output output_packet output_taken output_timeout sound_output busy_of fresh_pipe sound_pipe placed frame lines03 lines47 frames_of sample_at sum_of average_of averages_of bounded_of power_call packet_heard meant_body reply_bytes spoken_bytes answered packet_call put_call word_call lone_call samples_call word_of word_lent pipe_of lone_of succeeded errored event_of events checks_of initialised_pod done_by obey_of matches drop_from settled acknowledged_of report_of just_initialised fresh_fields fresh_pod restful sound_pod cuts left_open written_in reads_in step final tells
 not_empty =
     let busy-seen : seen_in busy ≡ seen_both true = refl in
     let other-seen : seen_in other ≡ seen_both true = refl in
@@ -168,8 +166,8 @@ not_empty =
       params = λ e. false≢true (sym (ap (λ (q : Params). get_or q.written 0 false) e));
       words = λ e. let z : ◌≡◌ {A = ℕ} 7 9 = ap (λ (t : Three). get_or t.five 0 0) e in omega arith;
       gathered = λ e. let z : ◌≡◌ {A = ℕ} 7 9 = ap (λ (l : List ℕ). get_or l 3 0) e in omega arith;
-      loads = record { fed = record { fit = record { tables = refl; sound = refl; load = refl }; presets = refl; marks = refl }; awake = refl; asked = refl; still = refl; last = refl };
-      opens = record { fed = record { fit = record { tables = refl; sound = refl; load = refl }; presets = refl; marks = refl }; begun = refl; still = refl; short = omega arith };
+      loads = record { fit = record { tables = refl; sound = refl; load = refl }; awake = refl; asked = refl; still = refl; last = refl };
+      opens = record { fit = record { tables = refl; sound = refl; load = refl }; begun = refl; still = refl; short = omega arith };
       right = refl;
       wrong = refl;
       load_cut = refl;

@@ -7,16 +7,16 @@ use Rattle.params.specs.Rows.{minus}
 use Rattle.params.specs.Rules.{start_params, stored, write_allowed}
 use Rattle.orders.specs.declared.Table.TheVariants.{Five, Six, Seven}
 use Rattle.tables.specs.declared.Transfer.{Transfer}
-use Rattle.orders.specs.declared.Way.TheVariants as way
-use Rattle.tables.specs.declared.Transfer.TheVariants.{Address, Load, Read, Preset}
-use Rattle.presets.specs.Tables.{three}
+use Rattle.tables.specs.declared.Transfer.TheVariants.{Address, Load, Read}
+use Rattle.tables.specs.Tables.{three}
 use Rattle.tables.specs.Port.{header, start_words, with_places, with_transfer}
 use Rattle.rules.specs.declared.Exchange.TheVariants as exchange
 use Rattle.rules.specs.declared.Pod.{Pod}
 use Rattle.rules.specs.State.{fresh_pod, with_initialised, with_fields, with_params, with_exchange, with_words, with_ring, with_pipe}
 use Rattle.rules.specs.Families.{deadline}
 use Rattle.rules.specs.World.{World, world, with_pod, packet, lone, samples, is_answered}
-use Rattle.examples.specs.Shown.{never_stored, just_on, ComputedLine, line, AsExpected}
+use Rattle.rules.specs.Demands.{just_powered}
+use Rattle.examples.specs.Shown.{ComputedLine, line, AsExpected}
 use Rattle.examples.specs.Edges.{refusal_in, outward}
 
 -- ---- the parameters
@@ -32,10 +32,10 @@ one_if b = cond b 1 0
 
 -- an awake pod as from power, with one part changed; and one asleep
 abbrev pub bent : (Pod → Pod) → World
-bent f = with_pod (f (with_initialised true fresh_pod)) just_on
+bent f = with_pod (f (with_initialised true fresh_pod)) just_powered
 
 abbrev pub asleep : (Pod → Pod) → World
-asleep f = with_pod (f fresh_pod) just_on
+asleep f = with_pod (f fresh_pod) just_powered
 
 -- 1 for each of some values that a write of an id takes, else 0; then the same of a state that holds it
 abbrev pub valued : ℕ → List ℤ → List ℕ
@@ -140,12 +140,6 @@ wakeful =
     ∷ moving Address
     ∷ moving (Load (header Five 4) 0)
     ∷ moving (Read (header Five 4) 0 0)
-    ∷ moving (Preset way.Store Five)
-    ∷ moving (Preset way.Store Six)
-    ∷ moving (Preset way.Store Seven)
-    ∷ moving (Preset way.Fetch Five)
-    ∷ moving (Preset way.Fetch Six)
-    ∷ moving (Preset way.Fetch Seven)
     ∷ []
 
 -- ---- the sizes
@@ -153,7 +147,7 @@ wakeful =
 -- a fresh pod that is lent so many bytes and words
 abbrev pub lending : ℕ → ℕ → ℕ → ℕ → ℕ → World
 lending a b c d e =
-    world fresh_pod (record { priority = replicate a 0; ordinary = replicate b 0; tables = three (replicate c 0) (replicate d 0) (replicate e 0); load = replicate 64 0; presets = never_stored })
+    world fresh_pod (record { priority = replicate a 0; ordinary = replicate b 0; tables = three (replicate c 0) (replicate d 0) (replicate e 0); load = replicate 64 0 })
 
 -- the table
 abbrev pub bounds : List ComputedLine
@@ -176,7 +170,7 @@ bounds =
     ∷ lending 4096 32768 64 128 65
     ∷ []))
     -- 5: the last sample alone over 1,023
-    ++ (line (refusal_in just_on (samples 0 (replicate 127 0 ++ (1024 ∷ [])))) (5 ∷ []) ∷ [])
+    ++ (line (refusal_in just_powered (samples 0 (replicate 127 0 ++ (1024 ∷ [])))) (5 ∷ []) ∷ [])
 
 pub record Bounds : Type 0 where
   pub starts : Starts

@@ -4,8 +4,7 @@ use Rattle.std.specs.Prelude.{ℕ, ◌≡◌, List, [], ◌∷◌, ◌++◌, map
 use Rattle.rows.specs.Rows.{gave}
 use Rattle.blocks.specs.declared.Store.{Store}
 use Rattle.blocks.specs.declared.Store.TheVariants.{Priority, Ordinary}
-use Rattle.presets.specs.Tables.{three, listed}
-use Rattle.presets.specs.Presets.{presets}
+use Rattle.tables.specs.Tables.{three, listed}
 use Rattle.rules.specs.State.{Lent, fresh_pod}
 use Rattle.rules.specs.Refusals.{done}
 use Rattle.rules.specs.Families.{status, PipeCall, byte, timeout, deadline, pipe}
@@ -99,7 +98,6 @@ dusty =
       ordinary = replicate 32768 0xEE;
       tables = three (replicate 64 0xEE) (replicate 128 0xEE) (replicate 64 0xEE);
       load = replicate 64 0xEE;
-      presets = presets (replicate 1024 0xEE) (replicate 12 0xEE);
     }
 
 abbrev pub conversation : List TalkTurn

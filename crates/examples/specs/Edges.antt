@@ -5,13 +5,14 @@ use Rattle.std.specs.Prelude.{ℕ, List, [], ◌∷◌, ◌++◌, map, get_or, r
 use Rattle.rows.specs.Rows.{Said, refused, gave}
 use Rattle.blocks.specs.declared.Store.{Store}
 use Rattle.blocks.specs.declared.Store.TheVariants.{Priority, Ordinary}
-use Rattle.presets.specs.Tables.{three}
+use Rattle.tables.specs.Tables.{three}
 use Rattle.rules.specs.declared.Pod.{Pod}
 use Rattle.rules.specs.State.{with_ring, with_pipe, with_tables}
 use Rattle.rules.specs.Refusals.{Giving}
 use Rattle.rules.specs.Families.{command, data_in, data_out, status, byte, timeout, packet_out, taken, deadline, pipe}
 use Rattle.rules.specs.World.{World, with_pod, Call, power, packet, put, word, lone, samples, step}
-use Rattle.examples.specs.Shown.{just_on, just_initialised, ComputedLine, line, AsExpected}
+use Rattle.rules.specs.Demands.{just_powered}
+use Rattle.examples.specs.Shown.{just_initialised, ComputedLine, line, AsExpected}
 
 -- the number that a call is refused by, none where it is answered
 abbrev pub refused_by : Said Giving → List ℕ
@@ -36,7 +37,7 @@ abbrev pub holding : Store → ℕ → World → World
 holding s n w = with_pod (with_ring s (record { oldest = 0; waiting = n }) w.pod) w
 
 abbrev pub broken : World
-broken = counting 16 just_on
+broken = counting 16 just_powered
 
 -- so many bytes in hand for the camera, after so many output timeouts
 abbrev pub outward : ℕ → ℕ → Pod → Pod
@@ -84,21 +85,21 @@ edges awake =
     line (refusal_in (bare broken) (packet [] [])) (1 ∷ [])
     ∷ line (refusal_in (bare broken) (packet [] (replicate 260 0))) (2 ∷ [])
     ∷ line (refusal_in broken (put Priority [])) (3 ∷ [])
-    ∷ line (refusal_in just_on (put Priority [])) (4 ∷ [])
-    ∷ line (refusal_in just_on (samples 32 (replicate 128 0))) (5 ∷ [])
-    ∷ line (refusal_in just_on (lone (pipe (byte 0)))) (6 ∷ [])
-    ∷ line (refusal_in (holding Priority 16 just_on) (put Priority (replicate 256 0))) (6 ∷ [])
+    ∷ line (refusal_in just_powered (put Priority [])) (4 ∷ [])
+    ∷ line (refusal_in just_powered (samples 32 (replicate 128 0))) (5 ∷ [])
+    ∷ line (refusal_in just_powered (lone (pipe (byte 0)))) (6 ∷ [])
+    ∷ line (refusal_in (holding Priority 16 just_powered) (put Priority (replicate 256 0))) (6 ∷ [])
     ∷ line (refusal_in (holding Priority 16 awake) (put Priority (replicate 256 0))) (7 ∷ [])
     -- 1: "answer room under 260 bytes"
-    ∷ line (refusal_in just_on (packet [] (replicate 259 0))) (1 ∷ [])
-    ∷ line (refusal_in just_on (packet [] (replicate 260 0))) []
+    ∷ line (refusal_in just_powered (packet [] (replicate 259 0))) (1 ∷ [])
+    ∷ line (refusal_in just_powered (packet [] (replicate 260 0))) []
     -- 2: power, a command word and the data words are lent the tables, the status word and the deadline are not
-    ∷ line (refusal_in (bare just_on) power) (2 ∷ [])
-    ∷ line (refusal_in (bare just_on) (word (command 0))) (2 ∷ [])
-    ∷ line (refusal_in (bare just_on) (word (data_in 0))) (2 ∷ [])
-    ∷ line (refusal_in (bare just_on) (word data_out)) (2 ∷ [])
-    ∷ line (refusal_in (bare just_on) (word status)) []
-    ∷ line (refusal_in (bare just_on) (lone deadline)) []
+    ∷ line (refusal_in (bare just_powered) power) (2 ∷ [])
+    ∷ line (refusal_in (bare just_powered) (word (command 0))) (2 ∷ [])
+    ∷ line (refusal_in (bare just_powered) (word (data_in 0))) (2 ∷ [])
+    ∷ line (refusal_in (bare just_powered) (word data_out)) (2 ∷ [])
+    ∷ line (refusal_in (bare just_powered) (word status)) []
+    ∷ line (refusal_in (bare just_powered) (lone deadline)) []
     -- 3: every call but power on judges the state
     ∷ line (refusal_in broken (packet [] (replicate 260 0))) (3 ∷ [])
     ∷ line (refusal_in broken (lone deadline)) (3 ∷ [])
@@ -106,17 +107,17 @@ edges awake =
     ∷ line (refusal_in broken (lone (pipe (byte 0)))) (3 ∷ [])
     ∷ line (refusal_in broken (samples 0 [])) (3 ∷ [])
     ∷ line (refusal_in broken power) []
-    ∷ line (refusal_in (counting 15 just_on) (lone deadline)) []
+    ∷ line (refusal_in (counting 15 just_powered) (lone deadline)) []
     -- 4: "a block is not 256 bytes, or a sample set not 128 numbers"
     ∷ line (refusal_in awake (put Priority (replicate 255 0))) (4 ∷ [])
     ∷ line (refusal_in awake (put Priority (replicate 257 0))) (4 ∷ [])
-    ∷ line (refusal_in just_on (samples 0 (replicate 127 0))) (4 ∷ [])
-    ∷ line (refusal_in just_on (samples 0 (replicate 129 0))) (4 ∷ [])
+    ∷ line (refusal_in just_powered (samples 0 (replicate 127 0))) (4 ∷ [])
+    ∷ line (refusal_in just_powered (samples 0 (replicate 129 0))) (4 ∷ [])
     -- 5: "a sample is over 1,023, or the self-check number over 31"
-    ∷ line (refusal_in just_on (samples 31 (replicate 128 1024))) (5 ∷ [])
-    ∷ line (refusal_in just_on (samples 31 (replicate 128 1023))) []
+    ∷ line (refusal_in just_powered (samples 31 (replicate 128 1024))) (5 ∷ [])
+    ∷ line (refusal_in just_powered (samples 31 (replicate 128 1023))) []
     -- 6: "block or pipe call while the pod is not initialised"
-    ∷ line (refusal_in just_on (lone (pipe timeout))) (6 ∷ [])
+    ∷ line (refusal_in just_powered (lone (pipe timeout))) (6 ∷ [])
     ∷ line (refusal_in awake (lone (pipe (byte 0)))) []
     ∷ line (refusal_in awake (lone (pipe timeout))) []
     -- 7: "that store is full", of 16 or of 128 blocks
@@ -130,9 +131,9 @@ edges awake =
 abbrev pub outward_edges : World → List ComputedLine
 outward_edges awake =
     -- "22 before 6, 21 last": each number, where those behind it hold too
-    line (refusal_in (handling 9 0 just_on) (offered 7)) (3 ∷ [])
-    ∷ line (refusal_in (handling 8 0 just_on) (offered 7)) (22 ∷ [])
-    ∷ line (refusal_in (handling 8 0 just_on) (offered 8)) (6 ∷ [])
+    line (refusal_in (handling 9 0 just_powered) (offered 7)) (3 ∷ [])
+    ∷ line (refusal_in (handling 8 0 just_powered) (offered 7)) (22 ∷ [])
+    ∷ line (refusal_in (handling 8 0 just_powered) (offered 8)) (6 ∷ [])
     ∷ line (refusal_in (handling 8 0 awake) (offered 8)) (21 ∷ [])
     -- 22: "one not of 8 bytes"
     ∷ line (refusal_in awake (offered 0)) (22 ∷ [])
@@ -142,18 +143,18 @@ outward_edges awake =
     ∷ line (refusal_in (handling 1 0 awake) (offered 8)) (21 ∷ [])
     ∷ line (refusal_in (handling 0 15 awake) (offered 8)) []
     -- "and 6 as before"; a byte may be taken with none in hand
-    ∷ line (refusal_in (handling 8 0 just_on) took) (6 ∷ [])
+    ∷ line (refusal_in (handling 8 0 just_powered) took) (6 ∷ [])
     ∷ line (refusal_in awake took) []
     ∷ line (refusal_in (handling 8 0 awake) took) []
     -- 3: "The state's bounds gain two: 0 to 8 bytes in hand, and output timeouts 0 to 15", for every call but power on
     ∷ line (refusals_in (handling 9 15 awake) judges) (replicate 13 3)
     ∷ line (refusals_in (handling 8 16 awake) judges) (replicate 13 3)
-    ∷ line (refusals_in (handling 9 0 just_on) judges) (replicate 13 3)
-    ∷ line (refusals_in (handling 0 16 just_on) judges) (replicate 13 3)
+    ∷ line (refusals_in (handling 9 0 just_powered) judges) (replicate 13 3)
+    ∷ line (refusals_in (handling 0 16 just_powered) judges) (replicate 13 3)
     -- within them, only a second packet; asleep, the two puts and the four pipe calls
     ∷ line (refusals_in (handling 8 15 awake) judges) (replicate 10 0 ++ (21 ∷ 0 ∷ 0 ∷ []))
-    ∷ line (refusals_in (handling 8 15 just_on) judges) judged_asleep
-    ∷ line (refusal_in (handling 9 16 just_on) power) []
+    ∷ line (refusals_in (handling 8 15 just_powered) judges) judged_asleep
+    ∷ line (refusal_in (handling 9 16 just_powered) power) []
     ∷ []
 
 pub record Edges : Type 0 where

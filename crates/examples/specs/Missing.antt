@@ -10,7 +10,8 @@ use Rattle.rules.specs.declared.Pod.{Pod}
 use Rattle.rules.specs.State.{fresh_fields, with_params}
 use Rattle.rules.specs.Families.{command, data_in, data_out, status, byte, timeout, packet_out, taken, deadline, pipe}
 use Rattle.rules.specs.World.{World, with_pod, Call, power, packet, put, word, lone, samples, step, next, final}
-use Rattle.examples.specs.Shown.{just_on, just_initialised, ComputedLine, line, AsExpected}
+use Rattle.rules.specs.Demands.{just_powered}
+use Rattle.examples.specs.Shown.{just_initialised, ComputedLine, line, AsExpected}
 use Rattle.examples.specs.Edges.{refusal_in, refusals_in, judges, judged_awake, judged_asleep}
 use Rattle.examples.specs.Bounds.{bent, asleep}
 
@@ -231,7 +232,7 @@ taken_back w = with_pod (unmarked (list_in w) w.pod) w
 -- mend nothing
 abbrev pub list_lines : World → List ComputedLine
 list_lines awake =
-    line (list_in just_on) (1 ∷ 2 ∷ 3 ∷ 6 ∷ 7 ∷ 0 ∷ 0 ∷ 0 ∷ [])
+    line (list_in just_powered) (1 ∷ 2 ∷ 3 ∷ 6 ∷ 7 ∷ 0 ∷ 0 ∷ 0 ∷ [])
     ∷ line (list_in awake) (1 ∷ 2 ∷ 3 ∷ 6 ∷ 7 ∷ 0 ∷ 0 ∷ 0 ∷ [])
     ∷ line (refusals_in (bent (unmarked (2 ∷ 1 ∷ 3 ∷ 6 ∷ 7 ∷ 0 ∷ 0 ∷ 0 ∷ []))) judges) (replicate 13 3)
     ∷ line (refusals_in (asleep (unmarked (1 ∷ 2 ∷ 3 ∷ 6 ∷ 7 ∷ 0 ∷ 0 ∷ 1 ∷ []))) judges) (replicate 13 3)

@@ -7,9 +7,8 @@ use Rattle.crc.specs.Crc.{crc_of}
 use Rattle.packets.specs.declared.Command.TheVariants.{Initialise, Read as ReadValue}
 use Rattle.packets.specs.Answers.{with_crc, command_bytes}
 use Rattle.tables.specs.declared.Transfer.{Transfer}
-use Rattle.tables.specs.declared.Transfer.TheVariants.{Idle, Address, Load, Read, Preset}
-use Rattle.orders.specs.Command.{table_number, preset_command}
-use Rattle.presets.specs.Presets.{Presets, presets}
+use Rattle.tables.specs.declared.Transfer.TheVariants.{Idle, Address, Load, Read}
+use Rattle.orders.specs.Command.{table_number}
 use Rattle.tables.specs.Port.{data_count}
 use Rattle.rules.specs.State.{fresh_fields}
 use Rattle.rules.specs.Obey.{exchange_code}
@@ -18,16 +17,9 @@ use Rattle.rules.specs.Families.{command, data_in, data_out, status, byte, timeo
 use Rattle.rules.specs.World.{World, Call, packet, word, lone, samples, Told, step, next, final, tells}
 use Rattle.rules.specs.Demands.{just_powered}
 
--- presets of which none was stored, and a pod just powered with them
-abbrev pub never_stored : Presets
-never_stored = presets (replicate 1024 0) (replicate 12 0)
-
-abbrev pub just_on : World
-just_on = just_powered never_stored
-
 -- "a pod just initialised with flags 0", from power on
 unfoldable pub just_initialised : World
-just_initialised = next just_on (packet (command_bytes (Initialise fresh_fields)) (replicate 260 0))
+just_initialised = next just_powered (packet (command_bytes (Initialise fresh_fields)) (replicate 260 0))
 
 -- the number that a call gives: the length of an answer, a word
 abbrev pub number_in : Said Giving → List ℕ
@@ -44,13 +36,11 @@ words_out cs = flatten (map (λ (t : Told). number_in t.said) (tells just_initia
 abbrev pub status_after : List Call → List ℕ
 status_after cs = number_in (step (final just_initialised cs) (word status)).told.said
 
--- an open transfer: 0 for a load or 1 for a read, the table, the count of data words, how many words along; 2 for an address; 3 for a preset,
--- its command
+-- an open transfer: 0 for a load or 1 for a read, the table, the count of data words, how many words along; 2 for an address
 abbrev pub transfer_shown : Transfer → List ℕ
 transfer_shown Idle = []
 transfer_shown Address = 2 ∷ []
 transfer_shown (Load h k) = 0 ∷ table_number h.table ∷ data_count h ∷ k ∷ []
-transfer_shown (Preset y t) = 3 ∷ preset_command y t ∷ []
 transfer_shown (Read h k at) = 1 ∷ table_number h.table ∷ data_count h ∷ k ∷ []
 
 abbrev pub transfer_after : List Call → List ℕ

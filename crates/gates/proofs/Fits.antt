@@ -11,8 +11,7 @@ use Rattle.rows.specs.Rows.{Row, Clear, none, past}
 use Rattle.rows.proofs.Bool.{and_left, and_right, not-false}
 use Rattle.blocks.specs.declared.Store.{Store}
 use Rattle.blocks.specs.Stores.{capacity_of, store_sized, sound_ring}
-use Rattle.presets.specs.Tables.{Three, tables_sized}
-use Rattle.presets.specs.Presets.{Presets, presets_sized, marks_right}
+use Rattle.tables.specs.Tables.{Three, tables_sized}
 use Rattle.tables.specs.Bounds.{sound_words}
 use Rattle.pipe.specs.Input.{sound_input}
 use Rattle.pipe.specs.Output.{sound_output}
@@ -20,8 +19,8 @@ use Rattle.pipe.specs.Pipe.{sound_pipe}
 use Rattle.pipe.proofs.Laws.{sound_in, sound_out}
 use Rattle.frames.specs.Samples.{bounded_of}
 use Rattle.rules.specs.declared.Pod.{Pod}
-use Rattle.rules.specs.State.{ring_of, sound_pod}
-use Rattle.rules.specs.Refusals.{tables_row, presets_row, state_row, marks_row}
+use Rattle.rules.specs.State.{ring_of}
+use Rattle.rules.specs.Refusals.{tables_row, state_row}
 use Rattle.rules.specs.Families.{packet_out, pipe}
 use Rattle.rules.specs.Calls.{put_rows, lone_rows, samples_rows}
 use Rattle.rules.proofs.Inside.{pod_in, ring_in}
@@ -48,23 +47,6 @@ tables_fit t (past k ks) = table_lengths t (not-false k)
 
 pub words_fit : (t : Three) (p : Pod) → Clear (tables_row t ∷ state_row p ∷ []) → Sized t × (sound_words p.words ≡ true)
 words_fit t p (past k (past ok none)) = (table_lengths t (not-false k), (pod_in p (not-false ok)).words)
-
--- and the presets of theirs
-abbrev pub PresetsSized : Presets → Type 0
-PresetsSized s = (length s.words ≡ 1024) × (length s.marks ≡ 12)
-
-preset_lengths : (s : Presets) → presets_sized s ≡ true → PresetsSized s
-unfolding presets_sized
-preset_lengths s h =
-    let a = eqb (length s.words) 1024 in
-    let b = eqb (length s.marks) 12 in
-    (eqb-true _ _ (and_left a b h), eqb-true _ _ (and_right a b h))
-
-pub presets_fit_lem : (t : Three) (s : Presets) (p : Pod) → Clear (presets_row t s ∷ marks_row p s ∷ [])
-    → Sized t × PresetsSized s × (sound_words p.words ≡ true)
-presets_fit_lem t s p (past k (past ok none)) =
-    let sizes = not-false k in
-    (table_lengths t (and_left (tables_sized t) (presets_sized s) sizes), preset_lengths s (and_right (tables_sized t) (presets_sized s) sizes), (pod_in p (and_left (sound_pod p) (marks_right s.marks) (not-false ok))).words)
 
 pub pipe_fits : (p : Pod) {rs : List Row} → Clear (state_row p ∷ rs)
     → ((p.pipe.input.gathered ≤ 7) × (p.pipe.input.timeouts ≤ 15)) × ((p.pipe.output.hand ≤ 8) × (p.pipe.output.timeouts ≤ 15))

@@ -11,7 +11,7 @@ use Rattle.items.specs.Printed.{bare_line}
 use Rattle.rules.specs.declared.Pod.{Pod}
 use Rattle.rules.specs.State.{Lent}
 use Rattle.line_calls.specs.declared.Sizes.{Sizes}
-use Rattle.lab_sets.specs.Setting.{part_set, load_set, marks_set}
+use Rattle.lab_sets.specs.Setting.{part_set, load_set}
 use Rattle.lab_lines.specs.Asked.{change_in}
 use Rattle.decimals.specs.Printing.{Written}
 use Rattle.lab_shows.specs.Shown.{shown_text}
@@ -31,16 +31,16 @@ unfolding bare_line
 bare-written k letter at to o o' e p c =
     record { characters = c ∙ ap (λ (x : ℕ). sets o at (bare_line x)) e; place = p; short = omega arith }
 
-module _ (t : List ℕ) (p : Pod) (s : Sizes) (l : Lent) (ms : List ℕ) (at : ℕ) (o o' : List ℕ) where
+module _ (t : List ℕ) (p : Pod) (s : Sizes) (l : Lent) (at : ℕ) (o o' : List ℕ) where
   -- the line `V`
   pub show_answered : (to : ℕ) → is_show t ≡ true → Written (shown_text p l) 1200 at to o o'
-      → OwnAnswered t p s l ms (record { pod = p; sizes = s; at = to }) l.load ms at o o'
+      → OwnAnswered t p s l (record { pod = p; sizes = s; at = to }) l.load at o o'
   unfolding own_of
-  show_answered to e w = record { pod = rw e refl; sizes = rw e refl; load = rw e refl; marks = rw e refl; printed = rw e w }
+  show_answered to e w = record { pod = rw e refl; sizes = rw e refl; load = rw e refl; printed = rw e w }
 
   -- any other
-  pub asked_answered : (r : Noted) (load' marks' : List ℕ) → is_show t ≡ false
-      → (r.pod ≡ part_set (change_in t) p) × (r.sizes ≡ sizes_set (change_in t) s) × (load' ≡ load_set (change_in t) l.load) × (marks' ≡ marks_set (change_in t) ms) × Written (bare_line (letter_of (change_in t))) 1200 at r.at o o'
-      → OwnAnswered t p s l ms r load' marks' at o o'
+  pub asked_answered : (r : Noted) (load' : List ℕ) → is_show t ≡ false
+      → (r.pod ≡ part_set (change_in t) p) × (r.sizes ≡ sizes_set (change_in t) s) × (load' ≡ load_set (change_in t) l.load) × Written (bare_line (letter_of (change_in t))) 1200 at r.at o o'
+      → OwnAnswered t p s l r load' at o o'
   unfolding own_of
-  asked_answered r load' marks' e w = record { pod = rw e w.0; sizes = rw e w.1; load = rw e w.2; marks = rw e w.3; printed = rw e w.4 }
+  asked_answered r load' e w = record { pod = rw e w.0; sizes = rw e w.1; load = rw e w.2; printed = rw e w.3 }

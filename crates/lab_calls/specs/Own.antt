@@ -1,6 +1,6 @@
 -- The lines that lab has besides the console's: "X, L, V and `?` lines are no calls".
 -- Assumes nothing.
-use Rattle.std.specs.Prelude.{ℕ, ◌≡◌, Bool, ◌&&◌, ◌||◌, cond, List, [], ◌∷◌, eqb, length, get_or, set}
+use Rattle.std.specs.Prelude.{ℕ, ◌≡◌, Bool, ◌&&◌, ◌||◌, cond, List, eqb, length, get_or}
 use Rattle.blocks.specs.declared.Store.TheVariants.{Priority, Ordinary}
 use Rattle.orders.specs.declared.Table.TheVariants.{Five, Six, Seven}
 use Rattle.items.specs.Characters.{question}
@@ -10,10 +10,10 @@ use Rattle.rules.specs.State.{Lent}
 use Rattle.line_calls.specs.declared.Sizes.{Sizes}
 use Rattle.line_calls.specs.Memory.{Memory, memory, lent_in, lent_at, right_sizes}
 use Rattle.lab_sets.specs.declared.Thing.{Thing}
-use Rattle.lab_sets.specs.declared.Thing.TheVariants.{Room, Store as store, Table as table, Presets, Marks}
+use Rattle.lab_sets.specs.declared.Thing.TheVariants.{Room, Store as store, Table as table}
 use Rattle.lab_sets.specs.declared.Change.{Change}
 use Rattle.lab_sets.specs.declared.Change.TheVariants.{Nothing, Cell, Value, Exchange, Address, Transfer, Thing as thing}
-use Rattle.lab_sets.specs.Setting.{part_set, load_set, marks_set}
+use Rattle.lab_sets.specs.Setting.{part_set, load_set}
 use Rattle.lab_lines.specs.Asked.{change_in}
 use Rattle.decimals.specs.Printing.{Written}
 use Rattle.lab_shows.specs.Shown.{letter_v, shown_text}
@@ -35,27 +35,14 @@ is_show t = eqb (length t) 1 && eqb (get_or t 0 0) letter_v
 unfoldable pub is_own : List ℕ → Bool
 is_own t = (eqb (get_or t 0 0) letter_x || eqb (get_or t 0 0) letter_l) || is_show t
 
--- the sizes in their order, and the place of each
-abbrev pub size_numbers : Sizes → List ℕ
-size_numbers s = s.room ∷ s.priority ∷ s.ordinary ∷ s.five ∷ s.six ∷ s.seven ∷ s.kept ∷ s.marks ∷ []
-
-abbrev pub sizes_of : List ℕ → Sizes
-sizes_of l =
-    record { room = get_or l 0 0; priority = get_or l 1 0; ordinary = get_or l 2 0; five = get_or l 3 0; six = get_or l 4 0; seven = get_or l 5 0; kept = get_or l 6 0; marks = get_or l 7 0 }
-
-abbrev pub size_place : Thing → ℕ
-size_place Room = 0
-size_place (store Priority) = 1
-size_place (store Ordinary) = 2
-size_place (table Five) = 3
-size_place (table Six) = 4
-size_place (table Seven) = 5
-size_place Presets = 6
-size_place Marks = 7
-
 -- "the next call is lent that thing at that size": a thing at another size
 abbrev pub size_set : Thing → ℕ → Sizes → Sizes
-size_set t n s = sizes_of (set (size_numbers s) (size_place t) n)
+size_set Room n s = record { room = n; priority = s.priority; ordinary = s.ordinary; five = s.five; six = s.six; seven = s.seven }
+size_set (store Priority) n s = record { room = s.room; priority = n; ordinary = s.ordinary; five = s.five; six = s.six; seven = s.seven }
+size_set (store Ordinary) n s = record { room = s.room; priority = s.priority; ordinary = n; five = s.five; six = s.six; seven = s.seven }
+size_set (table Five) n s = record { room = s.room; priority = s.priority; ordinary = s.ordinary; five = n; six = s.six; seven = s.seven }
+size_set (table Six) n s = record { room = s.room; priority = s.priority; ordinary = s.ordinary; five = s.five; six = n; seven = s.seven }
+size_set (table Seven) n s = record { room = s.room; priority = s.priority; ordinary = s.ordinary; five = s.five; six = s.six; seven = n }
 
 unfoldable pub sizes_set : Change → Sizes → Sizes
 sizes_set Nothing s = s
@@ -76,42 +63,36 @@ letter_of (Address g) = letter_x
 letter_of (Transfer t) = letter_x
 letter_of (thing t n) = letter_l
 
--- what a line of its own leaves: the pod, the sizes, the words of a load, the marks of the presets, and the text that it prints
+-- what a line of its own leaves: the pod, the sizes, the words of a load, and the text that it prints
 pub record Leaves : Type 0 where
   pub pod : Pod
   pub sizes : Sizes
   pub load : List ℕ
-  pub marks : List ℕ
   pub text : List ℕ
 
-abbrev pub leaves : Pod → Sizes → List ℕ → List ℕ → List ℕ → Leaves
-leaves p s l ms t = record { pod = p; sizes = s; load = l; marks = ms; text = t }
+abbrev pub leaves : Pod → Sizes → List ℕ → List ℕ → Leaves
+leaves p s l t = record { pod = p; sizes = s; load = l; text = t }
 
-abbrev pub asks : Change → Pod → Sizes → Lent → List ℕ → Leaves
-asks c p s l ms = leaves (part_set c p) (sizes_set c s) (load_set c l.load) (marks_set c ms) (bare_line (letter_of c))
+abbrev pub asks : Change → Pod → Sizes → Lent → Leaves
+asks c p s l = leaves (part_set c p) (sizes_set c s) (load_set c l.load) (bare_line (letter_of c))
 
-abbrev pub shows : Pod → Sizes → Lent → List ℕ → Leaves
-shows p s l ms = leaves p s l.load ms (shown_text p l)
+abbrev pub shows : Pod → Sizes → Lent → Leaves
+shows p s l = leaves p s l.load (shown_text p l)
 
--- what is shown is what would be lent; the marks, as the words of a load, are all that lie in the memory
-unfoldable pub own_of : List ℕ → Pod → Sizes → Lent → List ℕ → Leaves
-own_of t p s l ms = cond (is_show t) (shows p s l ms) (asks (change_in t) p s l ms)
+unfoldable pub own_of : List ℕ → Pod → Sizes → Lent → Leaves
+own_of t p s l = cond (is_show t) (shows p s l) (asks (change_in t) p s l)
 
 -- "`V` shows the memory at its right sizes"
 abbrev pub shown_in : Memory → Lent
 shown_in m = lent_in (lent_at right_sizes m)
 
--- the memory with other words of a load, and with other marks
+-- the memory with other words of a load
 abbrev pub with_load : List ℕ → Memory → Memory
-with_load l m = memory m.room m.priority m.ordinary m.five m.six m.seven l m.kept m.marks
-
-abbrev pub with_marks : List ℕ → Memory → Memory
-with_marks ms m = memory m.room m.priority m.ordinary m.five m.six m.seven m.load m.kept ms
+with_load l m = memory m.room m.priority m.ordinary m.five m.six m.seven l
 
 -- and so a line of its own is answered; no line is longer than 1,200 characters
-pub record OwnAnswered (t : List ℕ) (p : Pod) (s : Sizes) (l : Lent) (ms : List ℕ) (r : Noted) (load' marks' : List ℕ) (at : ℕ) (o o' : List ℕ) : Type 0 where
-  pub pod : r.pod ≡ (own_of t p s l ms).pod
-  pub sizes : r.sizes ≡ (own_of t p s l ms).sizes
-  pub load : load' ≡ (own_of t p s l ms).load
-  pub marks : marks' ≡ (own_of t p s l ms).marks
-  pub printed : Written (own_of t p s l ms).text 1200 at r.at o o'
+pub record OwnAnswered (t : List ℕ) (p : Pod) (s : Sizes) (l : Lent) (r : Noted) (load' : List ℕ) (at : ℕ) (o o' : List ℕ) : Type 0 where
+  pub pod : r.pod ≡ (own_of t p s l).pod
+  pub sizes : r.sizes ≡ (own_of t p s l).sizes
+  pub load : load' ≡ (own_of t p s l).load
+  pub printed : Written (own_of t p s l).text 1200 at r.at o o'

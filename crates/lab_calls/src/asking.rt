@@ -2,7 +2,7 @@
 ghost use Rattle.std.specs.Prelude.{◌≡◌, true, ◌+◌, ◌≤◌, length};
 ghost use Rattle.items.specs.Printed.{bare_line};
 ghost use Rattle.lab_sets.specs.Ranges.{in_range};
-ghost use Rattle.lab_sets.specs.Setting.{part_set, load_set, marks_set};
+ghost use Rattle.lab_sets.specs.Setting.{part_set, load_set};
 ghost use Rattle.decimals.specs.Printing.{Written};
 ghost use Rattle.lab_calls.specs.Own.{size_set, sizes_set, letter_of};
 
@@ -53,22 +53,14 @@ fn table_size(sizes: Sizes, table: Table, n: usize) -> Sizes
 fn size_set(sizes: Sizes, thing: Thing, n: usize) -> Sizes
     ensures { result ≡ size_set thing n sizes }
 {
-    let mut next = sizes;
     match thing {
         Thing::Room => {
+            let mut next = sizes;
             next.room = n;
             next
         }
         Thing::Store(store) => store_size(sizes, store, n),
         Thing::Table(table) => table_size(sizes, table, n),
-        Thing::Presets => {
-            next.kept = n;
-            next
-        }
-        Thing::Marks => {
-            next.marks = n;
-            next
-        }
     }
 }
 
@@ -106,15 +98,14 @@ pub fn asked(
     pod: Pod,
     sizes: Sizes,
     load: &mut [u16; 64],
-    marks: &mut [u8],
     out: &mut [u8],
     at: usize,
 ) -> Noted
-    requires change_value { (in_range change ≡ true) × (12 ≤ length marks.old) }
+    requires change_value { in_range change ≡ true }
     requires at_in_bounds { at + 1200 ≤ length out.old }
-    ensures { (result.pod ≡ part_set change pod) × (result.sizes ≡ sizes_set change sizes) × (load.new ≡ load_set change load.old) × (marks.new ≡ marks_set change marks.old) × Written (bare_line (letter_of change)) 1200 at result.at out.old out.new }
+    ensures { (result.pod ≡ part_set change pod) × (result.sizes ≡ sizes_set change sizes) × (load.new ≡ load_set change load.old) × Written (bare_line (letter_of change)) 1200 at result.at out.old out.new }
 {
-    let changed = set(change, pod, load, marks);
+    let changed = set(change, pod, load);
     let next = changed.pod;
     Noted {
         pod: next,

@@ -30,7 +30,7 @@ pub fn is_own(text: &[u8]) -> bool
     ((letter == b'X') | (letter == b'L')) | is_show(text)
 }
 
-// Such a line, answered. The memory is shown at its right sizes, and only the words of a load and the marks may change.
+// Such a line, answered. The memory is shown at its right sizes, and only the words of a load may change.
 pub fn own_line(
     text: &[u8],
     pod: Pod,
@@ -41,14 +41,12 @@ pub fn own_line(
     six: &[u16],
     seven: &[u16],
     load: &mut [u16; 64],
-    kept: &[u16],
-    marks: &mut [u8],
     out: &mut [u8],
     at: usize,
 ) -> Noted
-    requires in_bounds { (4096 ≤ length priority.now) × (32768 ≤ length ordinary.now) × (64 ≤ length five.now) × (128 ≤ length six.now) × (64 ≤ length seven.now) × (1024 ≤ length kept.now) × (12 ≤ length marks.old) }
+    requires in_bounds { (4096 ≤ length priority.now) × (32768 ≤ length ordinary.now) × (64 ≤ length five.now) × (128 ≤ length six.now) × (64 ≤ length seven.now) }
     requires at_in_bounds { at + 1200 ≤ length out.old }
-    ensures { OwnAnswered text.now pod sizes (shown_in (memory [] priority.now ordinary.now five.now six.now seven.now load.old kept.now marks.old)) marks.old result load.new marks.new at out.old out.new }
+    ensures { OwnAnswered text.now pod sizes (shown_in (memory [] priority.now ordinary.now five.now six.now seven.now load.old)) result load.new at out.old out.new }
 {
     if is_show(text) {
         let to = show(
@@ -59,12 +57,10 @@ pub fn own_line(
             &six[..128],
             &seven[..64],
             load,
-            &kept[..1024],
-            &marks[..12],
             out,
             at,
         );
         return Noted { pod, sizes, at: to };
     }
-    asked(change(text), pod, sizes, load, marks, out, at)
+    asked(change(text), pod, sizes, load, out, at)
 }

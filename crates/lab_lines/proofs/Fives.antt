@@ -1,12 +1,12 @@
 -- What a test on numbers says of them.
 -- Assumes nothing.
-use Prim.Native.Nat.{ℕ, zero, suc, ◌-◌, ◌≤◌, ◌<◌}
+use Prim.Native.Nat.{ℕ, zero, suc, ◌-◌, ◌^◌, ◌≤◌, ◌<◌}
 use native.Mathlib.Omega.{arith}
-use mathlib.Core.Path.{◌≡◌, ap, ◌∙◌}
-use mathlib.Core.Bool.{Bool, true, not, ◌&&◌}
+use mathlib.Core.Path.{◌≡◌, refl, ap, ◌∙◌}
+use mathlib.Core.Bool.{Bool, true, false, not, ◌&&◌}
 use mathlib.Core.List.{List}
 use lib.Dec.{ltb, leb}
-use lib.IntN.{pos, negsuc, neg_ℤ}
+use lib.IntN.{ℤ, pos, negsuc, neg_ℤ}
 use borrow.Author.Tests.{leb-true, ltb-true}
 use Rattle.rows.proofs.Bool.{and_left, and_right}
 use Rattle.numbers.specs.Numbers.{signed_of}
@@ -21,10 +21,10 @@ pub up_most : (m : ℕ) (n : Number) → up_to m n ≡ true → n.size ≤ m
 up_most m n h = leb-true n.size m (and_right (not (is_below n)) (leb n.size m) h)
 
 -- each of the five numbers
-pub bytes-each : (l : List Number) → all_bytes l ≡ true
+pub bytes_each : (l : List Number) → all_bytes l ≡ true
     → ((number_at l 0).size ≤ 255) × ((number_at l 1).size ≤ 255) × ((number_at l 2).size ≤ 255) × ((number_at l 3).size ≤ 255) × ((number_at l 4).size ≤ 255)
 unfolding all_bytes
-bytes-each l h =
+bytes_each l h =
     let test : ℕ → Bool = λ i. up_to 255 (number_at l i) in
     let t3 = test 3 && test 4 in
     let t2 = test 2 && t3 in

@@ -1,6 +1,6 @@
 -- What a line asks for, case by case: a cell and a thing come with their ranges.
 -- Assumes nothing.
-use Prim.Native.Nat.{ℕ, ◌+◌, ◌^◌}
+use Prim.Native.Nat.{ℕ, ◌+◌, ◌^◌, ◌≤◌}
 use mathlib.Core.Path.{◌≡◌, refl}
 use mathlib.Core.Bool.{true, not, ◌&&◌}
 use mathlib.Core.List.{List}
@@ -10,9 +10,6 @@ use lib.ListN.{take, drop}
 use Rattle.rows.proofs.Bool.{by-test, and_right}
 use Rattle.orders.specs.declared.Table.{Table}
 use Rattle.orders.specs.declared.Table.TheVariants.{Five, Six, Seven}
-use Rattle.orders.specs.declared.Way.{Way}
-use Rattle.orders.specs.declared.Way.TheVariants.{Store, Fetch}
-use Rattle.orders.specs.Command.{preset_command}
 use Rattle.tables.specs.declared.Given.{Given}
 use Rattle.tables.specs.declared.Transfer.{Transfer}
 use Rattle.rules.specs.declared.Exchange.{Exchange}
@@ -28,7 +25,7 @@ use Rattle.lab_names.specs.declared.Part.TheVariants as part
 use Rattle.lab_names.specs.Names.{part_named}
 use Rattle.decimals.specs.Reading.{is_below, numbers_in, numbers_read}
 use Rattle.lab_lines.specs.Ranges.{up_to, minus_one, right_size}
-use Rattle.lab_lines.specs.Asked.{cell_asked, value_asked, exchange_of, exchange_asked, address_asked, moving, preset_of, waiting_of, transfer_of, number_at, all_bytes, five_asked, only, transfer_asked, thing_asked, asked_of, name_end, change_in}
+use Rattle.lab_lines.specs.Asked.{cell_asked, value_asked, exchange_of, exchange_asked, address_asked, moving, transfer_of, number_at, all_bytes, five_asked, only, transfer_asked, thing_asked, asked_of, name_end, change_in}
 
 module _ (P : Change → Type 0) (none : P change.Nothing) (cells : (c : Cell) (n : ℕ) → leb n (cell_most c) ≡ true → P (change.Cell c n))
     (values : (id : ℕ) (v : ℤ) → P (change.Value id v)) (exchanges : (x : Exchange) → P (change.Exchange x))
@@ -66,23 +63,13 @@ module _ (P : Change → Type 0) (none : P change.Nothing) (cells : (c : Cell) (
   moving_case t r n k s =
       by-test P (eqb r 0 && eqb s 0) (λ e. transfers _) (λ e. by-test P (eqb r 1) (λ f. transfers _) (λ f. none))
 
-  preset_case : (y : Way) (c : ℕ) (other : Change) → P other → P (preset_of y c other)
-  unfolding preset_of
-  preset_case y c other h =
-      by-test P (eqb c (preset_command y Five)) (λ e. transfers _)
-      (λ e. by-test P (eqb c (preset_command y Six)) (λ f. transfers _) (λ f. by-test P (eqb c (preset_command y Seven)) (λ g. transfers _) (λ g. h)))
-
-  waiting_case : (c : ℕ) → P (waiting_of c)
-  unfolding waiting_of
-  waiting_case c = by-test P (eqb c 1) (λ e. transfers _) (λ e. preset_case Store c _ (preset_case Fetch c change.Nothing none))
-
   five_case : (c r n k s : ℕ) → P (transfer_of c r n k s)
   unfolding transfer_of
   five_case c r n k s =
-      by-test P (eqb c 5) (λ e. moving_case Five r n k s)
-      (λ e. by-test P (eqb c 6) (λ f. moving_case Six r n k s)
-      (λ f. by-test P (eqb c 7) (λ g. moving_case Seven r n k s)
-      (λ g. by-test P (eqb r 0 && (eqb n 1 && (eqb k 0 && eqb s 0))) (λ h. waiting_case c) (λ h. none))))
+      by-test P (eqb c 1 && (eqb r 0 && (eqb n 1 && (eqb k 0 && eqb s 0)))) (λ e. transfers _)
+      (λ e.
+      by-test P (eqb c 5) (λ f. moving_case Five r n k s)
+      (λ f. by-test P (eqb c 6) (λ g. moving_case Six r n k s) (λ g. by-test P (eqb c 7) (λ h. moving_case Seven r n k s) (λ h. none))))
 
   list_case : (l : List Number) → P (five_asked l)
   unfolding five_asked

@@ -1,16 +1,13 @@
 -- What a line of X or L asks for: a name, and numbers in the range of what it names.
 -- Assumes nothing.
-use Rattle.std.specs.Prelude.{ℕ, ◌+◌, ◌^◌, Bool, false, not, ◌&&◌, cond, List, ltb, leb, eqb, pos, neg_ℤ, take, drop, get_or}
+use Rattle.std.specs.Prelude.{ℕ, ◌+◌, ◌^◌, Bool, false, not, ◌&&◌, cond, List, ltb, leb, eqb, ℤ, pos, neg_ℤ, take, drop, get_or}
 use Rattle.bytes.specs.Bytes.{index_of}
 use Rattle.items.specs.Characters.{space}
 use Rattle.blocks.specs.declared.Store.TheVariants.{Priority, Ordinary}
 use Rattle.orders.specs.declared.Table.{Table}
 use Rattle.orders.specs.declared.Table.TheVariants.{Five, Six, Seven}
-use Rattle.orders.specs.declared.Way.{Way}
-use Rattle.orders.specs.declared.Way.TheVariants.{Store, Fetch}
-use Rattle.orders.specs.Command.{preset_command}
 use Rattle.tables.specs.declared.Given.TheVariants.{Nowhere, At}
-use Rattle.tables.specs.declared.Transfer.TheVariants.{Idle, Address as waits, Load, Read, Preset}
+use Rattle.tables.specs.declared.Transfer.TheVariants.{Idle, Address as waits, Load, Read}
 use Rattle.tables.specs.Port.{header}
 use Rattle.rules.specs.declared.Exchange.TheVariants.{Closed, Status, Read as reading, Receive}
 use Rattle.lab_sets.specs.declared.Cell.{Cell}
@@ -60,25 +57,13 @@ moving t reads n k start =
     (cond (eqb reads 1) (Transfer (Read (header t n) k start))
     Nothing)
 
--- of request No. 6: a command that stores or fetches waits for the number of a preset; else what is asked otherwise
-unfoldable pub preset_of : Way → ℕ → Change → Change
-preset_of y c other =
-    cond (eqb c (preset_command y Five)) (Transfer (Preset y Five))
-    (cond (eqb c (preset_command y Six)) (Transfer (Preset y Six))
-    (cond (eqb c (preset_command y Seven)) (Transfer (Preset y Seven))
-    other))
-
--- "(1 0 1 0 0 waits for an address)", and with these numbers behind it a preset's command for its number
-unfoldable pub waiting_of : ℕ → Change
-waiting_of c = cond (eqb c 1) (Transfer waits) (preset_of Store c (preset_of Fetch c Nothing))
-
--- "`transfer` command reading N along start"
+-- "`transfer` command reading N along start (1 0 1 0 0 waits for an address)"
 unfoldable pub transfer_of : ℕ → ℕ → ℕ → ℕ → ℕ → Change
 transfer_of c reads n k start =
-    cond (eqb c 5) (moving Five reads n k start)
+    cond (eqb c 1 && (eqb reads 0 && (eqb n 1 && (eqb k 0 && eqb start 0)))) (Transfer waits)
+    (cond (eqb c 5) (moving Five reads n k start)
     (cond (eqb c 6) (moving Six reads n k start)
     (cond (eqb c 7) (moving Seven reads n k start)
-    (cond (eqb reads 0 && (eqb n 1 && (eqb k 0 && eqb start 0))) (waiting_of c)
     Nothing)))
 
 -- the number at a place

@@ -4,9 +4,9 @@ use Rattle.std.specs.Prelude.{ℕ, ◌*◌, Bool, not, ◌&&◌, leb, eqb}
 use Rattle.blocks.specs.declared.Store.{Store}
 use Rattle.blocks.specs.declared.Store.TheVariants.{Priority, Ordinary}
 use Rattle.blocks.specs.Stores.{capacity_of}
-use Rattle.presets.specs.Tables.{table_size}
+use Rattle.tables.specs.Tables.{table_size}
 use Rattle.lab_sets.specs.declared.Thing.{Thing}
-use Rattle.lab_sets.specs.declared.Thing.TheVariants.{Room, Store as store, Table as table, Presets, Marks}
+use Rattle.lab_sets.specs.declared.Thing.TheVariants.{Room, Store as store, Table as table}
 use Rattle.decimals.specs.declared.Number.{Number}
 use Rattle.decimals.specs.Reading.{is_below}
 
@@ -22,10 +22,8 @@ abbrev pub store_size : Store → ℕ
 store_size Priority = capacity_of Priority * 256
 store_size Ordinary = capacity_of Ordinary * 256
 
--- the answer room and the stores in bytes, the tables in words; of request No. 6 "1,024 words .. and 12 marks"
+-- the answer room and the stores in bytes, the tables in words
 abbrev pub right_size : Thing → ℕ
 right_size Room = 260
 right_size (store s) = store_size s
 right_size (table t) = table_size t
-right_size Presets = 1024
-right_size Marks = 12

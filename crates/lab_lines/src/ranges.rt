@@ -1,14 +1,13 @@
 // How large each part and each lent thing may be asked for.
 ghost use Rattle.std.specs.Prelude.{◌≡◌, ◌≤◌};
-ghost use Rattle.presets.specs.Tables.{table_size};
+ghost use Rattle.tables.specs.Tables.{table_size};
 ghost use Rattle.lab_sets.specs.Ranges.{store_most, field_most, cell_most};
 ghost use Rattle.lab_lines.specs.Ranges.{up_to, minus_one, store_size, right_size};
 
 use blocks::{BLOCK, Store, capacity};
 use decimals::{Number, below};
 use lab_sets::{Cell, Field, Thing};
-use presets::size;
-use tables::Table;
+use tables::{Table, size};
 
 // Whether a number is 0 to `most`.
 pub fn up_to(n: Number, most: u64) -> bool
@@ -55,7 +54,6 @@ pub fn cell_most(cell: Cell) -> u64
         Cell::Field(field) => field_most(field),
         Cell::Written(_) => 1,
         Cell::Missing(_) => 0xFF,
-        Cell::Mark(_) => 0xFF,
         Cell::Error => 1,
         Cell::Place(_) => 0xFF,
         Cell::Oldest(_) => 0xFF,
@@ -87,7 +85,5 @@ pub fn right_size(thing: Thing) -> u64
         Thing::Room => 260,
         Thing::Store(store) => store_size(store),
         Thing::Table(table) => table_size(table),
-        Thing::Presets => 1024,
-        Thing::Marks => 12,
     }
 }

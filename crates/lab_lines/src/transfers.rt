@@ -1,12 +1,11 @@
 // A transfer as five numbers: command, reading, N, words along, start.
-ghost use Rattle.std.specs.Prelude.{◌≡◌, ◌≤◌};
-ghost use Rattle.orders.specs.Command.{preset_command};
-ghost use Rattle.lab_lines.specs.Asked.{only, moving, preset_of, waiting_of, transfer_of, all_bytes, five_asked};
+ghost use Rattle.std.specs.Prelude.{◌≡◌};
+ghost use Rattle.lab_lines.specs.Asked.{only, moving, transfer_of, all_bytes, five_asked};
 
 use crate::ranges::up_to;
 use decimals::{NONE, Number, Numbers};
 use lab_sets::Change;
-use tables::{Header, Table, Transfer, Way};
+use tables::{Header, Table, Transfer};
 
 // A load, whose start is 0, or a read.
 fn moving(table: Table, reading: u8, n: u8, along: u8, start: u8) -> Change
@@ -26,49 +25,12 @@ fn moving(table: Table, reading: u8, n: u8, along: u8, start: u8) -> Change
     Change::Nothing
 }
 
-// The first of the three commands that store, or that fetch.
-fn first_command(way: Way) -> u8
-    ensures { (result ≡ preset_command way Table.Five) × (result ≤ 14) }
-{
-    match way {
-        Way::Store => 10,
-        Way::Fetch => 14,
-    }
-}
-
-fn preset_of(way: Way, command: u8, other: Change) -> Change
-    ensures { result ≡ preset_of way command other }
-{
-    let first = first_command(way);
-    if command == first {
-        let table = Table::Five;
-        return Change::Transfer(Transfer::Preset { way, table });
-    }
-    if command == first + 1 {
-        let table = Table::Six;
-        return Change::Transfer(Transfer::Preset { way, table });
-    }
-    if command == first + 2 {
-        let table = Table::Seven;
-        return Change::Transfer(Transfer::Preset { way, table });
-    }
-    other
-}
-
-// The address of the next read, or the number of a preset.
-fn waiting_of(command: u8) -> Change
-    ensures { result ≡ waiting_of command }
-{
-    if command == 1 {
-        return Change::Transfer(Transfer::Address);
-    }
-    let fetch = preset_of(Way::Fetch, command, Change::Nothing);
-    preset_of(Way::Store, command, fetch)
-}
-
 fn transfer_of(command: u8, reading: u8, n: u8, along: u8, start: u8) -> Change
     ensures { result ≡ transfer_of command reading n along start }
 {
+    if (command == 1) & ((reading == 0) & ((n == 1) & ((along == 0) & (start == 0)))) {
+        return Change::Transfer(Transfer::Address);
+    }
     if command == 5 {
         return moving(Table::Five, reading, n, along, start);
     }
@@ -77,9 +39,6 @@ fn transfer_of(command: u8, reading: u8, n: u8, along: u8, start: u8) -> Change
     }
     if command == 7 {
         return moving(Table::Seven, reading, n, along, start);
-    }
-    if (reading == 0) & ((n == 1) & ((along == 0) & (start == 0))) {
-        return waiting_of(command);
     }
     Change::Nothing
 }

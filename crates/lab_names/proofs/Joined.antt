@@ -11,7 +11,7 @@ use lib.Seq.{take_at, drop-append-add}
 use lib.Dec.{eqb}
 use borrow.Author.Tests.{eqb-true}
 use Rattle.rows.proofs.Bool.{and_left, and_right}
-use Rattle.lab_names.specs.Names.{Name, no_name, state_names, written_names, missing_names, mark_names, port_names, value_names, other_names, names, texts_of}
+use Rattle.lab_names.specs.Names.{Name, no_name, state_names, written_names, missing_names, port_names, value_names, other_names, names, texts_of}
 
 -- every text has so many characters
 of_width : ℕ → List Name → Bool
@@ -37,8 +37,8 @@ abbrev pub spelled : ℕ → List ℕ → List ℕ
 spelled i all = take (i * 14 + 14 - i * 14) (drop (i * 14) all)
 
 -- .. is the name's text
-pub text_here : (all : List ℕ) (i : ℕ) → all ≡ texts_of names → i < 77 → spelled i all ≡ (get_or names i no_name).text
-unfolding of_width names state_names written_names missing_names mark_names port_names value_names other_names
+pub text_here : (all : List ℕ) (i : ℕ) → all ≡ texts_of names → i < 63 → spelled i all ≡ (get_or names i no_name).text
+unfolding of_width names state_names written_names missing_names port_names value_names other_names
 text_here all i e h =
     let w : i * 14 + 14 - i * 14 ≡ 14 = omega arith in
     ap₂ (λ (n : ℕ) (l : List ℕ). take n (drop (i * 14) l)) w e ∙ text_at 14 names i refl h

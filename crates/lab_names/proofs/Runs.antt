@@ -6,10 +6,10 @@ use mathlib.Core.Path.{◌≡◌, refl, ap, ◌∙◌}
 use mathlib.Core.List.{List, [], ◌∷◌, map}
 use lib.ListN.{take, drop, get_or, get_or-map}
 use lib.Seq.{get_or-take, get_or-drop}
-use Rattle.lab_sets.specs.declared.Cell.TheVariants.{Written, Missing, Mark}
+use Rattle.lab_sets.specs.declared.Cell.TheVariants.{Written, Missing}
 use Rattle.lab_names.specs.declared.Part.{Part}
 use Rattle.lab_names.specs.declared.Part.TheVariants.{Unknown, Cell as cell, Value}
-use Rattle.lab_names.specs.Names.{Name, no_name, state_names, written_names, missing_names, mark_names, port_names, value_names, other_names, names}
+use Rattle.lab_names.specs.Names.{Name, no_name, state_names, written_names, missing_names, port_names, value_names, other_names, names}
 
 abbrev part_of : Name → Part
 part_of n = n.part
@@ -38,28 +38,23 @@ by_place f first at n i e h k =
     ∙ ap part_of (get_or-take n (drop at names) (i - at) no_name (omega arith) ∙ get_or-drop at names (i - at) no_name)
     ∙ ap (λ (m : ℕ). (get_or names m no_name).part) j
 
--- what was written
-pub written_at_lem : (i : ℕ) → 10 ≤ i → i < 22 → cell (Written (i - 9)) ≡ (get_or names i no_name).part
+-- the marks
+pub mark_at : (i : ℕ) → 10 ≤ i → i < 22 → cell (Written (i - 9)) ≡ (get_or names i no_name).part
 unfolding counted names state_names written_names
-written_at_lem i h k =
+mark_at i h k =
     let e : i - 9 ≡ 1 + (i - 10) = omega arith in
     ap (λ (m : ℕ). cell (Written m)) e ∙ by_place (λ (m : ℕ). cell (Written m)) 1 10 12 i refl h k
 
--- places that count from 0: those of the kept list, and the marks
-from_zero : (f : ℕ → Part) (at n i : ℕ) → counted f 0 n ≡ map part_of (take n (drop at names)) → at ≤ i → i < at + n → f (i - at) ≡ (get_or names i no_name).part
-from_zero f at n i c h k = let e : i - at ≡ 0 + (i - at) = omega arith in ap f e ∙ by_place f 0 at n i c h k
-
+-- the places of the kept list
 pub place_at : (i : ℕ) → 22 ≤ i → i < 30 → cell (Missing (i - 22)) ≡ (get_or names i no_name).part
 unfolding counted names state_names written_names missing_names
-place_at i h k = from_zero (λ (m : ℕ). cell (Missing m)) 22 8 i refl h k
-
-pub mark_at_lem : (i : ℕ) → 30 ≤ i → i < 42 → cell (Mark (i - 30)) ≡ (get_or names i no_name).part
-unfolding counted names state_names written_names missing_names mark_names
-mark_at_lem i h k = from_zero (λ (m : ℕ). cell (Mark m)) 30 12 i refl h k
+place_at i h k =
+    let e : i - 22 ≡ 0 + (i - 22) = omega arith in
+    ap (λ (m : ℕ). cell (Missing m)) e ∙ by_place (λ (m : ℕ). cell (Missing m)) 0 22 8 i refl h k
 
 -- the parameters
-pub value_at_lem : (i : ℕ) → 54 ≤ i → i < 66 → Value (i - 53) ≡ (get_or names i no_name).part
-unfolding counted names state_names written_names missing_names mark_names port_names value_names other_names
+pub value_at_lem : (i : ℕ) → 42 ≤ i → i < 54 → Value (i - 41) ≡ (get_or names i no_name).part
+unfolding counted names state_names written_names missing_names port_names value_names other_names
 value_at_lem i h k =
-    let e : i - 53 ≡ 1 + (i - 54) = omega arith in
-    ap Value e ∙ by_place Value 1 54 12 i refl h k
+    let e : i - 41 ≡ 1 + (i - 42) = omega arith in
+    ap Value e ∙ by_place Value 1 42 12 i refl h k

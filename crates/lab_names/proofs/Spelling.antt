@@ -12,7 +12,7 @@ use Rattle.rows.proofs.Bool.{split}
 use Rattle.rows.specs.Same.{same_list}
 use Rattle.rows.proofs.Same.{same_once, same_self}
 use Rattle.lab_names.specs.declared.Part.TheVariants.{Unknown}
-use Rattle.lab_names.specs.Names.{Name, padded, no_name, state_names, written_names, missing_names, mark_names, port_names, value_names, other_names, names, part_in}
+use Rattle.lab_names.specs.Names.{Name, padded, no_name, state_names, written_names, missing_names, port_names, value_names, other_names, names, part_in}
 
 drop_replicate : (k n a : ℕ) → drop k (replicate n a) ≡ replicate (n - k) a
 drop_replicate zero n a = let e : n ≡ n - 0 = omega arith in ap (λ (k : ℕ). replicate k a) e
@@ -48,6 +48,6 @@ pub part_end : (t : List ℕ) (ns : List Name) (i : ℕ) → length ns ≤ i →
 unfolding part_in
 part_end t ns i h = rw (drop_of_length-le ns {i = i} h)
 
-pub names-length : length names ≡ 77
-unfolding names state_names written_names missing_names mark_names port_names value_names other_names
+pub names-length : length names ≡ 63
+unfolding names state_names written_names missing_names port_names value_names other_names
 names-length = refl

@@ -8,8 +8,8 @@ use Rattle.items.specs.Characters.{space}
 use Rattle.blocks.specs.declared.Store.TheVariants.{Priority, Ordinary}
 use Rattle.orders.specs.declared.Table.TheVariants.{Five, Six, Seven}
 use Rattle.lab_sets.specs.declared.Field.TheVariants.{Mode, Flags, Seconds, Milliseconds, Limit, Remaining, Poll}
-use Rattle.lab_sets.specs.declared.Cell.TheVariants.{Initialised, Field as field, Written, Missing, Mark, Error, Place, Oldest, Waiting, Gathered, Timeouts, Out, Outtimeouts}
-use Rattle.lab_sets.specs.declared.Thing.TheVariants.{Room, Store as store, Table as table, Presets, Marks}
+use Rattle.lab_sets.specs.declared.Cell.TheVariants.{Initialised, Field as field, Written, Missing, Error, Place, Oldest, Waiting, Gathered, Timeouts, Out, Outtimeouts}
+use Rattle.lab_sets.specs.declared.Thing.TheVariants.{Room, Store as store, Table as table}
 use Rattle.lab_names.specs.declared.Part.{Part}
 use Rattle.lab_names.specs.declared.Part.TheVariants.{Unknown, Cell as cell, Value, Exchange, Address, Transfer, Thing as thing}
 
@@ -79,23 +79,6 @@ missing_names =
     ∷ named "X missing7" (cell (Missing 7))
     ∷ []
 
--- of request No. 6: the marks of the presets
-unfoldable pub mark_names : List Name
-mark_names =
-    named "X mark0" (cell (Mark 0))
-    ∷ named "X mark1" (cell (Mark 1))
-    ∷ named "X mark2" (cell (Mark 2))
-    ∷ named "X mark3" (cell (Mark 3))
-    ∷ named "X mark4" (cell (Mark 4))
-    ∷ named "X mark5" (cell (Mark 5))
-    ∷ named "X mark6" (cell (Mark 6))
-    ∷ named "X mark7" (cell (Mark 7))
-    ∷ named "X mark8" (cell (Mark 8))
-    ∷ named "X mark9" (cell (Mark 9))
-    ∷ named "X mark10" (cell (Mark 10))
-    ∷ named "X mark11" (cell (Mark 11))
-    ∷ []
-
 -- the table words, the stores and the pipe
 unfoldable pub port_names : List Name
 port_names =
@@ -142,12 +125,10 @@ other_names =
     ∷ named "L 5" (thing (table Five))
     ∷ named "L 6" (thing (table Six))
     ∷ named "L 7" (thing (table Seven))
-    ∷ named "L presets" (thing Presets)
-    ∷ named "L marks" (thing Marks)
     ∷ []
 
 unfoldable pub names : List Name
-names = state_names ++ (written_names ++ (missing_names ++ (mark_names ++ (port_names ++ (value_names ++ other_names)))))
+names = state_names ++ (written_names ++ (missing_names ++ (port_names ++ (value_names ++ other_names))))
 
 -- the texts of names, one behind the other
 unfoldable pub texts_of : List Name → List ℕ

@@ -7,7 +7,7 @@ use crate::parts::part_at;
 use crate::texts::texts;
 
 // How many names there are, and the characters of each.
-const NAMES: usize = 77;
+const NAMES: usize = 63;
 
 const LONGEST: usize = 14;
 

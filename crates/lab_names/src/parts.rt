@@ -28,7 +28,7 @@ fn field_at(i: usize) -> Field
 // The words, the stores and the pipe.
 fn port_at(i: usize) -> Cell
     requires { i < 12 }
-    ensures { Part.Cell result ≡ (get_or names (i + 42) no_name).part }
+    ensures { Part.Cell result ≡ (get_or names (i + 30) no_name).part }
 {
     match i {
         0 => Cell::Error,
@@ -48,8 +48,8 @@ fn port_at(i: usize) -> Cell
 
 // The lent things.
 fn thing_at(i: usize) -> Thing
-    requires { i < 8 }
-    ensures { Part.Thing result ≡ (get_or names (i + 69) no_name).part }
+    requires { i < 6 }
+    ensures { Part.Thing result ≡ (get_or names (i + 57) no_name).part }
 {
     match i {
         0 => Thing::Room,
@@ -57,15 +57,13 @@ fn thing_at(i: usize) -> Thing
         2 => Thing::Store(Store::Ordinary),
         3 => Thing::Table(Table::Five),
         4 => Thing::Table(Table::Six),
-        5 => Thing::Table(Table::Seven),
-        6 => Thing::Presets,
-        _ => Thing::Marks,
+        _ => Thing::Table(Table::Seven),
     }
 }
 
-// All of them; the parameters and what was written of them have their ids, the missing ones and the marks their places.
+// All of them; the marks and the parameters have their ids, the missing ones their places in the kept list.
 pub fn part_at(i: usize) -> Part
-    requires { i < 77 }
+    requires { i < 63 }
     ensures { result ≡ (get_or names i no_name).part }
 {
     match i {
@@ -73,12 +71,11 @@ pub fn part_at(i: usize) -> Part
         1..=9 => Part::Cell(Cell::Field(field_at(i - 1))),
         10..=21 => Part::Cell(Cell::Written((i - 9) as u8)),
         22..=29 => Part::Cell(Cell::Missing((i - 22) as u8)),
-        30..=41 => Part::Cell(Cell::Mark((i - 30) as u8)),
-        42..=53 => Part::Cell(port_at(i - 42)),
-        54..=65 => Part::Value((i - 53) as u8),
-        66 => Part::Exchange,
-        67 => Part::Address,
-        68 => Part::Transfer,
-        _ => Part::Thing(thing_at(i - 69)),
+        30..=41 => Part::Cell(port_at(i - 30)),
+        42..=53 => Part::Value((i - 41) as u8),
+        54 => Part::Exchange,
+        55 => Part::Address,
+        56 => Part::Transfer,
+        _ => Part::Thing(thing_at(i - 57)),
     }
 }

@@ -2,7 +2,7 @@
 ghost use Rattle.std.specs.Prelude.{◌≡◌};
 ghost use Rattle.lab_names.specs.Names.{names, texts_of};
 
-const TEXTS: [u8; 1078] = *b"\
+const TEXTS: [u8; 882] = *b"\
     X initialised \
     X mode        \
     X flags       \
@@ -33,18 +33,6 @@ const TEXTS: [u8; 1078] = *b"\
     X missing5    \
     X missing6    \
     X missing7    \
-    X mark0       \
-    X mark1       \
-    X mark2       \
-    X mark3       \
-    X mark4       \
-    X mark5       \
-    X mark6       \
-    X mark7       \
-    X mark8       \
-    X mark9       \
-    X mark10      \
-    X mark11      \
     X error       \
     X place5      \
     X place6      \
@@ -77,11 +65,9 @@ const TEXTS: [u8; 1078] = *b"\
     L o           \
     L 5           \
     L 6           \
-    L 7           \
-    L presets     \
-    L marks       ";
+    L 7           ";
 
-pub fn texts() -> [u8; 1078]
+pub fn texts() -> [u8; 882]
     ensures { result ≡ texts_of names }
 {
     TEXTS

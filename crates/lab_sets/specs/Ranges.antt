@@ -6,7 +6,7 @@ use Rattle.blocks.specs.declared.Store.TheVariants.{Priority, Ordinary}
 use Rattle.lab_sets.specs.declared.Field.{Field}
 use Rattle.lab_sets.specs.declared.Field.TheVariants.{Mode, Flags, Seconds, Milliseconds, Limit, Remaining, Poll}
 use Rattle.lab_sets.specs.declared.Cell.{Cell}
-use Rattle.lab_sets.specs.declared.Cell.TheVariants.{Initialised, Field as field, Written, Missing, Mark, Error, Place, Oldest, Waiting, Gathered, Timeouts, Out, Outtimeouts}
+use Rattle.lab_sets.specs.declared.Cell.TheVariants.{Initialised, Field as field, Written, Missing, Error, Place, Oldest, Waiting, Gathered, Timeouts, Out, Outtimeouts}
 use Rattle.lab_sets.specs.declared.Change.{Change}
 use Rattle.lab_sets.specs.declared.Change.TheVariants.{Nothing, Cell as cell, Value, Exchange, Address, Transfer, Thing as thing}
 
@@ -29,13 +29,12 @@ field_most (Remaining s) = store_most s
 field_most Poll = most 16
 
 -- "`initialised`, `error`, `written` 0 or 1; `mode`, `timeouts`, places, oldest, waiting .. 0 to 255; `gathered` 0 to 8"; of request No. 3's half `out`
--- 0 to 9, `outtimeouts` 0 to 255; of request No. 5's list a place 0 to 255; of request No. 6's marks each 0 to 255
+-- 0 to 9, `outtimeouts` 0 to 255; of request No. 5's list a place 0 to 255
 abbrev pub cell_most : Cell → ℕ
 cell_most Initialised = 1
 cell_most (field f) = field_most f
 cell_most (Written i) = 1
 cell_most (Missing k) = 255
-cell_most (Mark k) = 255
 cell_most Error = 1
 cell_most (Place t) = 255
 cell_most (Oldest s) = 255

@@ -6,14 +6,14 @@ use Rattle.packets.specs.declared.Fields.{Fields}
 use Rattle.params.specs.declared.Params.{Params}
 use Rattle.params.specs.Rules.{is_id}
 use Rattle.pipe.specs.declared.Pipe.{Pipe}
-use Rattle.tables.specs.Places.{with_read_place}
+use Rattle.tables.specs.Tables.{with_read_place}
 use Rattle.tables.specs.Port.{with_error, with_transfer, with_places, with_given}
 use Rattle.rules.specs.declared.Pod.{Pod}
 use Rattle.rules.specs.State.{with_initialised, with_fields, with_params, with_exchange, with_words, with_ring, with_pipe, of_store, ring_of}
 use Rattle.lab_sets.specs.declared.Field.{Field}
 use Rattle.lab_sets.specs.declared.Field.TheVariants.{Mode, Flags, Seconds, Milliseconds, Limit, Remaining, Poll}
 use Rattle.lab_sets.specs.declared.Cell.{Cell}
-use Rattle.lab_sets.specs.declared.Cell.TheVariants.{Initialised, Field as field, Written, Missing, Mark, Error, Place, Oldest, Waiting, Gathered, Timeouts, Out, Outtimeouts}
+use Rattle.lab_sets.specs.declared.Cell.TheVariants.{Initialised, Field as field, Written, Missing, Error, Place, Oldest, Waiting, Gathered, Timeouts, Out, Outtimeouts}
 use Rattle.lab_sets.specs.declared.Change.{Change}
 use Rattle.lab_sets.specs.declared.Change.TheVariants.{Nothing, Cell as cell, Value, Exchange, Address, Transfer, Thing as thing}
 use Rattle.lab_sets.specs.declared.Changed.{Changed}
@@ -72,7 +72,6 @@ cell_set Initialised n p = with_initialised (eqb n 1) p
 cell_set (field x) n p = with_fields (field_set x n p.fields) p
 cell_set (Written id) n p = with_params (mark_set id (eqb n 1) p.params) p
 cell_set (Missing k) n p = with_params (missing_set k n p.params) p
-cell_set (Mark k) n p = p
 cell_set Error n p = with_words (with_error (eqb n 1) p.words) p
 cell_set (Place t) n p = with_words (with_places (with_read_place t n p.words.places) p.words) p
 cell_set (Oldest s) n p = with_ring s (ring n (ring_of s p).waiting) p
@@ -117,36 +116,10 @@ load_set (Address g) l = l
 load_set (Transfer t) l = replicate 64 0
 load_set (thing t n) l = l
 
--- of request No. 6: a mark of the presets, from 0 on, whatever lies behind the twelve
-unfoldable pub cell_marks : Cell → ℕ → List ℕ → List ℕ
-cell_marks Initialised n ms = ms
-cell_marks (field x) n ms = ms
-cell_marks (Written id) n ms = ms
-cell_marks (Missing k) n ms = ms
-cell_marks (Mark k) n ms = cond (ltb k 12) (set ms k n) ms
-cell_marks Error n ms = ms
-cell_marks (Place t) n ms = ms
-cell_marks (Oldest s) n ms = ms
-cell_marks (Waiting s) n ms = ms
-cell_marks Gathered n ms = ms
-cell_marks Timeouts n ms = ms
-cell_marks Out n ms = ms
-cell_marks Outtimeouts n ms = ms
-
-unfoldable pub marks_set : Change → List ℕ → List ℕ
-marks_set Nothing ms = ms
-marks_set (cell c n) ms = cell_marks c n ms
-marks_set (Value id v) ms = ms
-marks_set (Exchange x) ms = ms
-marks_set (Address g) ms = ms
-marks_set (Transfer t) ms = ms
-marks_set (thing t n) ms = ms
-
--- the state, the words of a load and the marks of the presets, after a line of X
+-- the state and the words of a load, after a line of X
 pub record Left : Type 0 where
   pub changed : Changed
   pub load : List ℕ
-  pub marks : List ℕ
 
-abbrev pub left : Changed → List ℕ → List ℕ → Left
-left c l ms = record { changed = c; load = l; marks = ms }
+abbrev pub left : Changed → List ℕ → Left
+left c l = record { changed = c; load = l }

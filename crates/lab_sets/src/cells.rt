@@ -1,14 +1,14 @@
 // A part that a number says, set.
-ghost use Rattle.std.specs.Prelude.{◌≡◌, ◌≤◌, length};
-ghost use Rattle.tables.specs.Places.{with_read_place};
+ghost use Rattle.std.specs.Prelude.{◌≡◌, ◌≤◌};
+ghost use Rattle.tables.specs.Tables.{with_read_place};
 ghost use Rattle.tables.specs.Port.{with_error, with_places};
 ghost use Rattle.rules.specs.State.{with_initialised, with_fields, with_ring, ring_of};
 ghost use Rattle.lab_sets.specs.Ranges.{field_most, cell_most};
-ghost use Rattle.lab_sets.specs.Setting.{field_set, ring, gathering, counting, holds_out, counts_out, cell_set, cell_marks};
+ghost use Rattle.lab_sets.specs.Setting.{field_set, ring, gathering, counting, holds_out, counts_out, cell_set};
 
 use crate::fields::{field_set, mark_set, missing_set, place_set};
 use crate::{Cell, Field};
-use blocks::Store;
+use blocks::{Ring, Store};
 use commands::{ring_of, with_params, with_pipe, with_ring, with_words};
 use pipe::{Input, Output, Pipe};
 use rules::Pod;
@@ -129,7 +129,6 @@ pub fn cell_set(pod: Pod, cell: Cell, n: u64) -> Pod
         Cell::Field(field) => fields_set(pod, field, n),
         Cell::Written(id) => with_params(pod, mark_set(params, id, n == 1)),
         Cell::Missing(k) => with_params(pod, missing_set(params, k, n as u8)),
-        Cell::Mark(_) => pod,
         Cell::Error => with_words(pod, error_set(words, n == 1)),
         Cell::Place(table) => with_words(pod, places_set(words, table, n as u8)),
         Cell::Oldest(store) => oldest_set(pod, store, n as usize),
@@ -138,18 +137,5 @@ pub fn cell_set(pod: Pod, cell: Cell, n: u64) -> Pod
         Cell::Timeouts => with_pipe(pod, timeouts_set(pipe, n as u8)),
         Cell::Out => with_pipe(pod, out_set(pipe, n as u8)),
         Cell::Outtimeouts => with_pipe(pod, outtimeouts_set(pipe, n as u8)),
-    }
-}
-
-// A mark of the presets, which the pod doesn't hold.
-pub fn marks_set(marks: &mut [u8], cell: Cell, n: u64)
-    requires { (n ≤ cell_most cell) × (12 ≤ length marks.old) }
-    ensures { marks.new ≡ cell_marks cell n marks.old }
-{
-    let Cell::Mark(k) = cell else {
-        return;
-    };
-    if k < 12 {
-        marks[k as usize] = n as u8;
     }
 }

@@ -1,6 +1,6 @@
 // A field, a parameter and a read place set.
 ghost use Rattle.std.specs.Prelude.{◌≡◌, ◌≤◌};
-ghost use Rattle.tables.specs.Places.{with_read_place};
+ghost use Rattle.tables.specs.Tables.{with_read_place};
 ghost use Rattle.lab_sets.specs.Ranges.{store_most, field_most};
 ghost use Rattle.lab_sets.specs.Setting.{field_set, value_set, mark_set, missing_set};
 

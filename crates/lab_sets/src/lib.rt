@@ -20,15 +20,13 @@ pub enum Field {
     Poll,
 }
 
-// A part of the state that a number from 0 on says, or a mark of the presets. What was written has its id, a missing id its place in the
-// kept list, a mark its place among the twelve.
+// A part of the state that a number from 0 on says. A mark has its id, a missing id its place in the kept list.
 #[derive(Drop)]
 pub enum Cell {
     Initialised,
     Field(Field),
     Written(u8),
     Missing(u8),
-    Mark(u8),
     Error,
     Place(Table),
     Oldest(Store),
@@ -45,8 +43,6 @@ pub enum Thing {
     Room,
     Store(Store),
     Table(Table),
-    Presets,
-    Marks,
 }
 
 // What a line of `X` or `L` asks for: a part with what it becomes, a thing with its size. A parameter has its id.

@@ -1,10 +1,10 @@
-// What a change sets in the pod, in the words of a load and in the marks of the presets.
-ghost use Rattle.std.specs.Prelude.{◌≡◌, true, ◌≤◌, length};
+// What a change sets in the pod and in the words of a load.
+ghost use Rattle.std.specs.Prelude.{◌≡◌, true};
 ghost use Rattle.tables.specs.Port.{with_transfer, with_given};
 ghost use Rattle.lab_sets.specs.Ranges.{in_range};
-ghost use Rattle.lab_sets.specs.Setting.{set_of, load_set, marks_set, done, left};
+ghost use Rattle.lab_sets.specs.Setting.{set_of, load_set, done, left};
 
-use crate::cells::{cell_set, marks_set};
+use crate::cells::cell_set;
 use crate::fields::value_set;
 use crate::{Change, Changed};
 use commands::{with_exchange, with_params, with_words};
@@ -44,18 +44,15 @@ fn done(pod: Pod) -> Changed
 }
 
 // A transfer begins with a load's words at 0.
-pub fn set(change: Change, pod: Pod, load: &mut [u16; 64], marks: &mut [u8]) -> Changed
-    requires { (in_range change ≡ true) × (12 ≤ length marks.old) }
-    ensures { left result load.new marks.new ≡ left (set_of change pod) (load_set change load.old) (marks_set change marks.old) }
+pub fn set(change: Change, pod: Pod, load: &mut [u16; 64]) -> Changed
+    requires { in_range change ≡ true }
+    ensures { left result load.new ≡ left (set_of change pod) (load_set change load.old) }
 {
     let params = pod.params;
     let words = pod.words;
     match change {
         Change::Nothing => Changed { ok: false, pod },
-        Change::Cell(cell, n) => {
-            marks_set(marks, cell, n);
-            done(cell_set(pod, cell, n))
-        }
+        Change::Cell(cell, n) => done(cell_set(pod, cell, n)),
         Change::Value(id, v) => done(with_params(pod, value_set(params, id, v))),
         Change::Exchange(exchange) => done(with_exchange(pod, exchange)),
         Change::Address(given) => done(with_words(pod, given_set(words, given))),

@@ -1,6 +1,6 @@
 -- Lists filled from the front.
 -- Assumes nothing.
-use Prim.Native.Nat.{ℕ, ◌+◌, ◌*◌, ◌≤◌, ◌<◌}
+use Prim.Native.Nat.{ℕ, suc, ◌+◌, ◌*◌, ◌≤◌, ◌<◌}
 use native.Mathlib.Omega.{arith}
 use native.Mathlib.Numerals.{add-one}
 use mathlib.Core.Path.{◌≡◌, refl, sym, ap, ap₂, ◌∙◌}
@@ -10,7 +10,7 @@ use lib.ListN.{length, take, drop, get_or, set, length-append}
 use lib.Seq.{sets, sets-eq, take-suc, take-suc-set, take_at, length-take-le}
 use Rattle.numbers.specs.Numbers.{high_first}
 use Rattle.tables.specs.declared.Transfer.{Transfer}
-use Rattle.tables.specs.declared.Transfer.TheVariants.{Idle, Address, Load, Read, Preset}
+use Rattle.tables.specs.declared.Transfer.TheVariants.{Idle, Address, Load, Read}
 use Rattle.lab_shows.specs.Shown.{bit_of, transfer_numbers, word_bytes}
 
 -- one mark more
@@ -54,4 +54,3 @@ five_of Idle rest = refl
 five_of Address rest = refl
 five_of (Load h k) rest = refl
 five_of (Read h k start) rest = refl
-five_of (Preset y t) rest = refl

@@ -5,15 +5,14 @@ use Rattle.crc.specs.Crc.{crc_of}
 use Rattle.hex.specs.Digits.{word_digits}
 use Rattle.numbers.specs.Numbers.{high_first}
 use Rattle.items.specs.Characters.{newline, space}
-use Rattle.orders.specs.Command.{table_number, preset_command}
+use Rattle.orders.specs.Command.{table_number}
 use Rattle.packets.specs.declared.Fields.{Fields}
 use Rattle.tables.specs.declared.Transfer.{Transfer}
-use Rattle.tables.specs.declared.Transfer.TheVariants.{Idle, Address, Load, Read, Preset}
+use Rattle.tables.specs.declared.Transfer.TheVariants.{Idle, Address, Load, Read}
 use Rattle.tables.specs.declared.Given.{Given}
 use Rattle.tables.specs.declared.Given.TheVariants.{Nowhere, At}
 use Rattle.tables.specs.declared.Places.{Places}
-use Rattle.presets.specs.Tables.{three}
-use Rattle.presets.specs.Presets.{Presets, presets}
+use Rattle.tables.specs.Tables.{three}
 use Rattle.pipe.specs.Output.{held_out}
 use Rattle.rules.specs.declared.Pod.{Pod}
 use Rattle.rules.specs.State.{Lent}
@@ -21,9 +20,8 @@ use Rattle.rules.specs.Obey.{exchange_code}
 use Rattle.decimals.specs.Printing.{spelled, naturals}
 
 -- what is lent, of its parts
-abbrev pub lent_of : List ℕ → List ℕ → List ℕ → List ℕ → List ℕ → List ℕ → List ℕ → List ℕ → Lent
-lent_of p o five six seven load kept marks =
-    record { priority = p; ordinary = o; tables = three five six seven; load = load; presets = presets kept marks }
+abbrev pub lent_of : List ℕ → List ℕ → List ℕ → List ℕ → List ℕ → List ℕ → Lent
+lent_of p o five six seven load = record { priority = p; ordinary = o; tables = three five six seven; load = load }
 
 -- `V`
 abbrev pub letter_v : ℕ
@@ -38,13 +36,12 @@ abbrev pub field_numbers : Fields → List ℕ
 field_numbers f =
     f.mode ∷ f.flags ∷ f.seconds ∷ f.milliseconds ∷ f.prioritylimit ∷ f.priorityremaining ∷ f.memorylimit ∷ f.memoryremaining ∷ f.poll ∷ []
 
--- "the transfer as five numbers as above (0 0 0 0 0 for none)": command reading N along start; of request No. 6 a preset's command with its N
+-- "the transfer as five numbers as above (0 0 0 0 0 for none)": command reading N along start
 abbrev pub transfer_numbers : Transfer → List ℕ
 transfer_numbers Idle = 0 ∷ 0 ∷ 0 ∷ 0 ∷ 0 ∷ []
 transfer_numbers Address = 1 ∷ 0 ∷ 1 ∷ 0 ∷ 0 ∷ []
 transfer_numbers (Load h k) = table_number h.table ∷ 0 ∷ h.n ∷ k ∷ 0 ∷ []
 transfer_numbers (Read h k start) = table_number h.table ∷ 1 ∷ h.n ∷ k ∷ start ∷ []
-transfer_numbers (Preset y t) = preset_command y t ∷ 0 ∷ 1 ∷ 0 ∷ 0 ∷ []
 
 abbrev pub place_numbers : Places → List ℕ
 place_numbers p = p.five ∷ p.six ∷ p.seven ∷ []
@@ -84,7 +81,6 @@ along Idle = 0
 along Address = 0
 along (Load h k) = k
 along (Read h k start) = 0
-along (Preset y t) = 0
 
 -- "the CRC of the bytes gathered, of the words of the open load so far, of the priority store, the ordinary store, tables 5, 6 and 7"
 unfoldable pub shown_checks : Pod → Lent → List ℕ
@@ -110,20 +106,11 @@ out_numbers p = p.pipe.output.hand ∷ p.pipe.output.timeouts ∷ []
 unfoldable pub shown_output : Pod → List ℕ
 shown_output p = spelled (naturals (out_numbers p)) ++ spelled_words (crc_of (held_out p.pipe.output) ∷ [])
 
--- behind these, of request No. 5: the eight places of the kept list
+-- behind these, of request No. 5: the eight places of the kept list; and the line's end
 unfoldable pub shown_list : Pod → List ℕ
-shown_list p = spelled (naturals p.params.missing)
-
--- behind these, of request No. 6: the twelve marks, and the CRC of the words of the presets; and the line's end
-unfoldable pub shown_presets : Presets → List ℕ
-shown_presets s = spelled (naturals s.marks) ++ (spelled_words (crc_of (word_bytes s.words) ∷ []) ++ (newline ∷ []))
+shown_list p = spelled (naturals p.params.missing) ++ (newline ∷ [])
 
 -- "`V` and these, each after one space"
 unfoldable pub shown_text : Pod → Lent → List ℕ
 shown_text p l =
-    letter_v
-    ∷ (spelled (front_numbers p ++ back_numbers p)
-    ++ (spelled_words (shown_checks p l)
-    ++ (shown_output p
-    ++ (shown_list p
-    ++ shown_presets l.presets))))
+    letter_v ∷ (spelled (front_numbers p ++ back_numbers p) ++ (spelled_words (shown_checks p l) ++ (shown_output p ++ shown_list p)))

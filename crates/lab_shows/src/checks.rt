@@ -12,10 +12,10 @@ use tables::Transfer;
 
 // The CRC of words, high byte first.
 pub fn words_crc(words: &[u16]) -> u16
-    requires { length words.now ≤ 1024 }
+    requires { length words.now ≤ 128 }
     ensures { result ≡ crc_of (word_bytes words.now) }
 {
-    let mut bytes = [0u8; 2048];
+    let mut bytes = [0u8; 256];
     let mut i = 0;
     while i < words.len() {
         put_two(&mut bytes, 2 * i, words[i]);
@@ -37,7 +37,6 @@ fn along(transfer: Transfer) -> usize
             k: _,
             start: _,
         } => 0,
-        Transfer::Preset { way: _, table: _ } => 0,
     }
 }
 

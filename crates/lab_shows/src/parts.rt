@@ -1,14 +1,15 @@
 // The state as numbers.
 ghost use Rattle.std.specs.Prelude.{◌≡◌, [], ◌∷◌, map};
-ghost use Rattle.orders.specs.Command.{table_number, preset_command};
+ghost use Rattle.orders.specs.Command.{table_number};
 ghost use Rattle.rules.specs.Obey.{exchange_code};
 ghost use Rattle.lab_shows.specs.Shown.{bit_of, first_numbers, port_numbers, last_numbers, transfer_numbers};
 
 use blocks::Store;
+use packets::Fields;
 use rules::{Exchange, Pod};
-use tables::{Header, Table, Transfer, Way};
+use tables::{Header, Table, Transfer};
 
-fn bit(b: bool) -> u8
+fn bit(b: bool) -> u64
     ensures { result ≡ bit_of b }
 {
     if b { 1 } else { 0 }
@@ -19,7 +20,7 @@ pub fn first_numbers(pod: Pod) -> [u64; 10]
 {
     let f = pod.fields;
     [
-        bit(pod.initialised) as u64,
+        bit(pod.initialised),
         f.mode as u64,
         f.flags as u64,
         f.seconds as u64,
@@ -33,10 +34,10 @@ pub fn first_numbers(pod: Pod) -> [u64; 10]
 }
 
 // Whether each parameter was written.
-pub fn marks(written: [bool; 12]) -> [u8; 12]
+pub fn marks(written: [bool; 12]) -> [u64; 12]
     ensures { result ≡ map bit_of written }
 {
-    let mut numbers = [0u8; 12];
+    let mut numbers = [0u64; 12];
     for i in 0..12usize {
         numbers[i] = bit(written[i]);
     }
@@ -50,15 +51,6 @@ fn table_number(table: Table) -> u64
         Table::Five => 5,
         Table::Six => 6,
         Table::Seven => 7,
-    }
-}
-
-fn preset_command(way: Way, table: Table) -> u64
-    ensures { result ≡ preset_command way table }
-{
-    match way {
-        Way::Store => 5 + table_number(table),
-        Way::Fetch => 9 + table_number(table),
     }
 }
 
@@ -97,7 +89,6 @@ fn transfer_numbers(transfer: Transfer) -> [u64; 5]
         Transfer::Address => [1, 0, 1, 0, 0],
         Transfer::Load { header, k } => moving(header, 0, k, 0),
         Transfer::Read { header, k, start } => moving(header, 1, k, start),
-        Transfer::Preset { way, table } => [preset_command(way, table), 0, 1, 0, 0],
     }
 }
 
@@ -112,7 +103,7 @@ pub fn port_numbers(pod: Pod) -> [u64; 10]
     let t = transfer_numbers(transfer);
     [
         code(exchange),
-        bit(words.error) as u64,
+        bit(words.error),
         t[0],
         t[1],
         t[2],

@@ -29,15 +29,13 @@ fn put_byte(out: &mut [u8], at: usize, b: u8) -> usize
     append(out, at, &text[..n])
 }
 
-pub fn put_bytes(out: &mut [u8], at: usize, bytes: &[u8]) -> usize
-    requires { at + 4 * length bytes.now ≤ length out.old }
-    ensures { Written (spelled (naturals bytes.now)) (4 * length bytes.now) at result out.old out.new }
+pub fn put_bytes(out: &mut [u8], at: usize, list: [u8; 8]) -> usize
+    requires { at + 32 ≤ length out.old }
+    ensures { Written (spelled (naturals list)) 32 at result out.old out.new }
 {
     let mut to = at;
-    let mut i = 0;
-    while i < bytes.len() {
-        to = put_byte(out, to, bytes[i]);
-        i += 1;
+    for i in 0..8usize {
+        to = put_byte(out, to, list[i]);
     }
     to
 }

@@ -1,8 +1,7 @@
 // The line, whole.
-ghost use Rattle.std.specs.Prelude.{◌≡◌, List, ◌++◌, ℕ, ◌+◌, ◌≤◌, length};
-ghost use Rattle.presets.specs.Presets.{presets};
+ghost use Rattle.std.specs.Prelude.{◌≡◌, ◌+◌, ◌≤◌, length};
 ghost use Rattle.decimals.specs.Printing.{spelled, Written};
-ghost use Rattle.lab_shows.specs.Shown.{front_numbers, back_numbers, shown_checks, shown_output, shown_list, shown_presets, shown_text, lent_of};
+ghost use Rattle.lab_shows.specs.Shown.{front_numbers, back_numbers, shown_checks, shown_output, shown_list, shown_text, lent_of};
 
 use crate::checks::{gathered_crc, hand_crc, load_crc, words_crc};
 use crate::parts::{first_numbers, last_numbers, marks, port_numbers};
@@ -14,8 +13,8 @@ use rules::Pod;
 
 // The numbers of the state up to the marks of the parameters ..
 fn put_front(out: &mut [u8], at: usize, pod: Pod) -> usize
-    requires { at + 522 ≤ length out.old }
-    ensures { Written (spelled (front_numbers pod)) 522 at result out.old out.new }
+    requires { at + 726 ≤ length out.old }
+    ensures { Written (spelled (front_numbers pod)) 726 at result out.old out.new }
 {
     let params = pod.params;
     let values = params.values;
@@ -24,7 +23,7 @@ fn put_front(out: &mut [u8], at: usize, pod: Pod) -> usize
     let marked = marks(written);
     let a = put_run(out, at, &first);
     let b = put_values(out, a, values);
-    put_bytes(out, b, &marked)
+    put_run(out, b, &marked)
 }
 
 // .. and those behind.
@@ -41,7 +40,7 @@ fn put_back(out: &mut [u8], at: usize, pod: Pod) -> usize
     put_run(out, b, &last)
 }
 
-// The output half of the pipe ..
+// .. and the output half of the pipe, behind the checks ..
 fn put_output(out: &mut [u8], at: usize, pod: Pod) -> usize
     requires { at + 47 ≤ length out.old }
     ensures { Written (shown_output pod) 47 at result out.old out.new }
@@ -53,37 +52,15 @@ fn put_output(out: &mut [u8], at: usize, pod: Pod) -> usize
     put_words(out, a, &check)
 }
 
-// .. and the kept list ..
+// .. and the kept list, with the line's end.
 fn put_list(out: &mut [u8], at: usize, pod: Pod) -> usize
-    requires { at + 32 ≤ length out.old }
-    ensures { Written (shown_list pod) 32 at result out.old out.new }
+    requires { at + 33 ≤ length out.old }
+    ensures { Written (shown_list pod) 33 at result out.old out.new }
 {
     let params = pod.params;
     let list = params.missing;
-    put_bytes(out, at, &list)
-}
-
-// .. and the presets, with the line's end.
-fn put_presets(out: &mut [u8], at: usize, kept: &[u16], marks: &[u8]) -> usize
-    requires kept_len_bound { (length kept.now ≤ 1024) × (length marks.now ≤ 12) }
-    requires at_in_bounds { at + 54 ≤ length out.old }
-    ensures { Written (shown_presets (presets kept.now marks.now)) 54 at result out.old out.new }
-{
-    let check = [words_crc(kept)];
-    let a = put_bytes(out, at, marks);
-    let b = put_words(out, a, &check);
-    append(out, b, &[b'\n'])
-}
-
-// .. which all stand behind the checks.
-fn put_behind(out: &mut [u8], at: usize, pod: Pod, kept: &[u16], marks: &[u8]) -> usize
-    requires kept_len_bound { (length kept.now ≤ 1024) × (length marks.now ≤ 12) }
-    requires at_in_bounds { at + 133 ≤ length out.old }
-    ensures { Written (shown_output pod ++ (shown_list pod ++ shown_presets (presets kept.now marks.now))) 133 at result out.old out.new }
-{
-    let a = put_output(out, at, pod);
-    let b = put_list(out, a, pod);
-    put_presets(out, b, kept, marks)
+    let a = put_bytes(out, at, list);
+    append(out, a, &[b'\n'])
 }
 
 fn all_checks(
@@ -96,7 +73,7 @@ fn all_checks(
     load: &[u16; 64],
 ) -> [u16; 7]
     requires { (length five.now ≤ 128) × (length six.now ≤ 128) × (length seven.now ≤ 128) }
-    ensures { (kept marks : List ℕ) → result ≡ shown_checks pod (lent_of priority.now ordinary.now five.now six.now seven.now load.now kept marks) }
+    ensures { result ≡ shown_checks pod (lent_of priority.now ordinary.now five.now six.now seven.now load.now) }
 {
     let words = pod.words;
     let transfer = words.transfer;
@@ -122,19 +99,18 @@ pub fn show(
     six: &[u16],
     seven: &[u16],
     load: &[u16; 64],
-    kept: &[u16],
-    marks: &[u8],
     out: &mut [u8],
     at: usize,
 ) -> usize
-    requires five_len_bound { (length five.now ≤ 128) × (length six.now ≤ 128) × (length seven.now ≤ 128) × (length kept.now ≤ 1024) × (length marks.now ≤ 12) }
+    requires five_len_bound { (length five.now ≤ 128) × (length six.now ≤ 128) × (length seven.now ≤ 128) }
     requires at_in_bounds { at + 1200 ≤ length out.old }
-    ensures { Written (shown_text pod (lent_of priority.now ordinary.now five.now six.now seven.now load.now kept.now marks.now)) 1200 at result out.old out.new }
+    ensures { Written (shown_text pod (lent_of priority.now ordinary.now five.now six.now seven.now load.now)) 1200 at result out.old out.new }
 {
     let checks = all_checks(pod, priority, ordinary, five, six, seven, load);
     let first = append(out, at, &[b'V']);
     let front = put_front(out, first, pod);
     let back = put_back(out, front, pod);
     let last = put_words(out, back, &checks);
-    put_behind(out, last, pod, kept, marks)
+    let behind = put_output(out, last, pod);
+    put_list(out, behind, pod)
 }

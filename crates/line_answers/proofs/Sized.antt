@@ -22,7 +22,7 @@ use Rattle.line_calls.specs.declared.Sizes.{Sizes}
 use Rattle.line_calls.specs.Calls.{heard_line, call_of}
 use Rattle.line_calls.specs.Memory.{Memory, right_sizes}
 use Rattle.lab_sets.specs.declared.Thing.{Thing}
-use Rattle.lab_sets.specs.declared.Thing.TheVariants.{Room, Store as store, Table as table, Presets, Marks}
+use Rattle.lab_sets.specs.declared.Thing.TheVariants.{Room, Store as store, Table as table}
 use Rattle.lab_lines.specs.Ranges.{right_size}
 use Rattle.lab_lines.specs.Asked.{change_in}
 use Rattle.lab_lines.proofs.Inside.{asked_case}
@@ -54,7 +54,7 @@ sizes_again Other s bs ws k = absurd (miss (0 ∷ 1 ∷ 2 ∷ 3 ∷ 4 ∷ 5 ∷ 
 -- the right sizes are within the arrays
 pub within_right : Within right_sizes
 within_right =
-    record { room = omega arith; priority = omega arith; ordinary = omega arith; five = omega arith; six = omega arith; seven = omega arith; kept = omega arith; marks = omega arith }
+    record { room = omega arith; priority = omega arith; ordinary = omega arith; five = omega arith; six = omega arith; seven = omega arith }
 
 within_if : (c : Option Call) (s : Sizes) → Within s → Within (sizes_if c s)
 within_if none s w = w
@@ -66,21 +66,17 @@ within_after a s s' e w = subst (λ (x : Sizes). Within x) (sym e) (within_if (c
 
 within_thing : (t : Thing) (n : ℕ) (s : Sizes) → n ≤ right_size t + 1024 → Within s → Within (size_set t n s)
 within_thing Room n s h w =
-    record { room = h; priority = w.priority; ordinary = w.ordinary; five = w.five; six = w.six; seven = w.seven; kept = w.kept; marks = w.marks }
+    record { room = h; priority = w.priority; ordinary = w.ordinary; five = w.five; six = w.six; seven = w.seven }
 within_thing (store Priority) n s h w =
-    record { room = w.room; priority = h; ordinary = w.ordinary; five = w.five; six = w.six; seven = w.seven; kept = w.kept; marks = w.marks }
+    record { room = w.room; priority = h; ordinary = w.ordinary; five = w.five; six = w.six; seven = w.seven }
 within_thing (store Ordinary) n s h w =
-    record { room = w.room; priority = w.priority; ordinary = h; five = w.five; six = w.six; seven = w.seven; kept = w.kept; marks = w.marks }
+    record { room = w.room; priority = w.priority; ordinary = h; five = w.five; six = w.six; seven = w.seven }
 within_thing (table Five) n s h w =
-    record { room = w.room; priority = w.priority; ordinary = w.ordinary; five = h; six = w.six; seven = w.seven; kept = w.kept; marks = w.marks }
+    record { room = w.room; priority = w.priority; ordinary = w.ordinary; five = h; six = w.six; seven = w.seven }
 within_thing (table Six) n s h w =
-    record { room = w.room; priority = w.priority; ordinary = w.ordinary; five = w.five; six = h; seven = w.seven; kept = w.kept; marks = w.marks }
+    record { room = w.room; priority = w.priority; ordinary = w.ordinary; five = w.five; six = h; seven = w.seven }
 within_thing (table Seven) n s h w =
-    record { room = w.room; priority = w.priority; ordinary = w.ordinary; five = w.five; six = w.six; seven = h; kept = w.kept; marks = w.marks }
-within_thing Presets n s h w =
-    record { room = w.room; priority = w.priority; ordinary = w.ordinary; five = w.five; six = w.six; seven = w.seven; kept = h; marks = w.marks }
-within_thing Marks n s h w =
-    record { room = w.room; priority = w.priority; ordinary = w.ordinary; five = w.five; six = w.six; seven = w.seven; kept = w.kept; marks = h }
+    record { room = w.room; priority = w.priority; ordinary = w.ordinary; five = w.five; six = w.six; seven = h }
 
 within_set : (t : List ℕ) (s : Sizes) → Within s → Within (sizes_set (change_in t) s)
 unfolding sizes_set
@@ -88,13 +84,13 @@ within_set t s w =
     asked_case (λ c. Within (sizes_set c s)) w (λ c n e. w) (λ id v. w) (λ x. w) (λ g. w) (λ t. w)
     (λ x n e. within_thing x n s (leb-true n (right_size x + 1024) e) w) t
 
-within_own : (t : List ℕ) (p : Pod) (s : Sizes) (l : Lent) (ms : List ℕ) → Within s → Within (own_of t p s l ms).sizes
+within_own : (t : List ℕ) (p : Pod) (s : Sizes) (l : Lent) → Within s → Within (own_of t p s l).sizes
 unfolding own_of
-within_own t p s l ms w = by-test (λ (x : Leaves). Within x.sizes) (is_show t) (λ _. w) (λ _. within_set t s w)
+within_own t p s l w = by-test (λ (x : Leaves). Within x.sizes) (is_show t) (λ _. w) (λ _. within_set t s w)
 
 -- whatever a text is, no size is over that of the arrays
 pub within_answered : {p : Program} {t : List ℕ} {b b' : Between} {m m' : Memory} {o o' : List ℕ} → TextAnswered p t b b' m m' o o'
     → Within b.sizes → Within b'.sizes
 within_answered {p} {t} {b} {b'} {m} (own e a) w =
-    subst (λ (x : Sizes). Within x) (sym a.answered.sizes) (within_own t b.pod b.sizes (shown_in m) m.marks w)
+    subst (λ (x : Sizes). Within x) (sym a.answered.sizes) (within_own t b.pod b.sizes (shown_in m) w)
 within_answered {p} {t} {b} {b'} (call e a) w = within_after (asking_of p t).asked b.sizes b'.sizes a.sizes w

@@ -9,7 +9,7 @@ use Rattle.line_calls.specs.declared.LineSaid.{LineSaid}
 use Rattle.line_calls.specs.Memory.{Memory, lent_at}
 use Rattle.line_calls.specs.Promise.{step_of, LentAnswered}
 use Rattle.lab_calls.specs.declared.Noted.{Noted}
-use Rattle.lab_calls.specs.Own.{own_of, shown_in, with_load, with_marks, OwnAnswered}
+use Rattle.lab_calls.specs.Own.{own_of, shown_in, with_load, OwnAnswered}
 use Rattle.line_answers.specs.declared.Program.{Program}
 use Rattle.line_answers.specs.declared.Between.{Between}
 use Rattle.line_answers.specs.declared.Standing.{Standing}
@@ -23,8 +23,6 @@ pub record Within (s : Sizes) : Type 0 where
   pub five : s.five ≤ 1088
   pub six : s.six ≤ 1152
   pub seven : s.seven ≤ 1088
-  pub kept : s.kept ≤ 2048
-  pub marks : s.marks ≤ 1036
 
 abbrev pub spoken : Between → LineSaid
 spoken b = record { pod = b.pod; at = b.at }
@@ -42,11 +40,11 @@ pub record CallAnswered (p : Program) (t : List ℕ) (b b' : Between) (m m' : Me
 abbrev pub noted : Between → Noted
 noted b = record { pod = b.pod; sizes = b.sizes; at = b.at }
 
--- a line of lab's own is answered as it says, by one line; of the memory only the words of a load and the marks may change
+-- a line of lab's own is answered as it says, by one line; of the memory only the words of a load may change
 pub record OwnText (t : List ℕ) (b b' : Between) (m m' : Memory) (o o' : List ℕ) : Type 0 where
-  pub answered : OwnAnswered t b.pod b.sizes (shown_in m) m.marks (noted b') m'.load m'.marks b.at o o'
-  pub rest : m' ≡ with_marks m'.marks (with_load m'.load m)
-  pub line : suc (before (own_of t b.pod b.sizes (shown_in m) m.marks).text) ≡ length (own_of t b.pod b.sizes (shown_in m) m.marks).text
+  pub answered : OwnAnswered t b.pod b.sizes (shown_in m) (noted b') m'.load b.at o o'
+  pub rest : m' ≡ with_load m'.load m
+  pub line : suc (before (own_of t b.pod b.sizes (shown_in m)).text) ≡ length (own_of t b.pod b.sizes (shown_in m)).text
 
 -- a text is a line of lab's own, or else it calls or asks nothing
 pub data TextAnswered (p : Program) (t : List ℕ) (b b' : Between) (m m' : Memory) (o o' : List ℕ) : Type 0 where

@@ -27,22 +27,19 @@ fn called(
     six: &mut [u16; 1152],
     seven: &mut [u16; 1088],
     load: &mut [u16; 64],
-    kept: &mut [u16; 2048],
-    marks: &mut [u8; 1036],
     out: &mut [u8; 65536],
 ) -> Between
     requires text_len_bound { length text.now ≤ 196606 }
     requires within { Within between.sizes }
     requires at_bound { between.at + 784 ≤ 65536 }
-    ensures { CallAnswered program text.now between result (memory room.old priority.old ordinary.old five.old six.old seven.old load.old kept.old marks.old) (memory room.new priority.new ordinary.new five.new six.new seven.new load.new kept.new marks.new) out.old out.new }
+    ensures { CallAnswered program text.now between result (memory room.old priority.old ordinary.old five.old six.old seven.old load.old) (memory room.new priority.new ordinary.new five.new six.new seven.new load.new) out.old out.new }
 {
     let sizes = between.sizes;
     let pod = between.pod;
     let at = between.at;
     let line = asked(program, text, bytes, words);
     let spoken = answer(
-        line, pod, sizes, bytes, words, room, priority, ordinary, five, six, seven, load, kept,
-        marks, out, at,
+        line, pod, sizes, bytes, words, room, priority, ordinary, five, six, seven, load, out, at,
     );
     let next = spoken.pod;
     Between {
@@ -66,21 +63,19 @@ pub fn answered(
     six: &mut [u16; 1152],
     seven: &mut [u16; 1088],
     load: &mut [u16; 64],
-    kept: &mut [u16; 2048],
-    marks: &mut [u8; 1036],
     out: &mut [u8; 65536],
 ) -> Between
     requires text_len_bound { length text.now ≤ 196606 }
     requires within { Within between.sizes }
     requires at_bound { between.at + 1200 ≤ 65536 }
-    ensures { TextAnswered program text.now between result (memory room.old priority.old ordinary.old five.old six.old seven.old load.old kept.old marks.old) (memory room.new priority.new ordinary.new five.new six.new seven.new load.new kept.new marks.new) out.old out.new }
+    ensures { TextAnswered program text.now between result (memory room.old priority.old ordinary.old five.old six.old seven.old load.old) (memory room.new priority.new ordinary.new five.new six.new seven.new load.new) out.old out.new }
 {
     if own(program, text) {
         let pod = between.pod;
         let sizes = between.sizes;
         let at = between.at;
         let noted = own_line(
-            text, pod, sizes, priority, ordinary, five, six, seven, load, kept, marks, out, at,
+            text, pod, sizes, priority, ordinary, five, six, seven, load, out, at,
         );
         let next = noted.pod;
         let lent = noted.sizes;
@@ -91,8 +86,7 @@ pub fn answered(
         };
     }
     called(
-        program, text, between, bytes, words, room, priority, ordinary, five, six, seven, load,
-        kept, marks, out,
+        program, text, between, bytes, words, room, priority, ordinary, five, six, seven, load, out,
     )
 }
 
@@ -111,13 +105,11 @@ pub fn gather(
     six: &mut [u16; 1152],
     seven: &mut [u16; 1088],
     load: &mut [u16; 64],
-    kept: &mut [u16; 2048],
-    marks: &mut [u8; 1036],
     out: &mut [u8; 65536],
 ) -> Standing
     requires fine { Fine start (length piece.now) }
     requires piece_len_bound { length piece.now ≤ 65536 }
-    ensures turns { Turns (AnswersText program) piece.now (standing start line.old (memory room.old priority.old ordinary.old five.old six.old seven.old load.old kept.old marks.old) out.old) (standing result line.new (memory room.new priority.new ordinary.new five.new six.new seven.new load.new kept.new marks.new) out.new) }
+    ensures turns { Turns (AnswersText program) piece.now (standing start line.old (memory room.old priority.old ordinary.old five.old six.old seven.old load.old) out.old) (standing result line.new (memory room.new priority.new ordinary.new five.new six.new seven.new load.new) out.new) }
     ensures fine_2 { Fine result (length piece.now) }
     ensures spent { Spent result (length piece.now) }
 {
@@ -143,8 +135,6 @@ pub fn gather(
             six,
             seven,
             load,
-            kept,
-            marks,
             out,
         );
     }

@@ -32,14 +32,12 @@ pub record PartsKept (s : Sizes) (m parts : Memory) : Type 0 where
   pub five : length parts.five ≡ length (take s.five m.five)
   pub six : length parts.six ≡ length (take s.six m.six)
   pub seven : length parts.seven ≡ length (take s.seven m.seven)
-  pub kept : length parts.kept ≡ length (take s.kept m.kept)
-  pub marks : length parts.marks ≡ length (take s.marks m.marks)
 
 abbrev pub come_back : Sizes → Memory → Memory → Memory
 come_back s m parts =
     memory (parts.room ++ drop s.room m.room) (parts.priority ++ drop s.priority m.priority)
     (parts.ordinary ++ drop s.ordinary m.ordinary) (parts.five ++ drop s.five m.five) (parts.six ++ drop s.six m.six)
-    (parts.seven ++ drop s.seven m.seven) parts.load (parts.kept ++ drop s.kept m.kept) (parts.marks ++ drop s.marks m.marks)
+    (parts.seven ++ drop s.seven m.seven) parts.load
 
 module _ (s : Sizes) (m parts : Memory) (f : SizesFit s m) (k : PartsKept s m parts) where
   lent_is : lent_at s (come_back s m parts) ≡ parts
@@ -51,8 +49,6 @@ module _ (s : Sizes) (m parts : Memory) (f : SizesFit s m) (k : PartsKept s m pa
       (part_is s.six m.six parts.six f.six k.six i)
       (part_is s.seven m.seven parts.seven f.seven k.seven i)
       parts.load
-      (part_is s.kept m.kept parts.kept f.kept k.kept i)
-      (part_is s.marks m.marks parts.marks f.marks k.marks i)
 
   pub behind_is : behind s (come_back s m parts) ≡ behind s m
   behind_is = λ i.
@@ -63,8 +59,6 @@ module _ (s : Sizes) (m parts : Memory) (f : SizesFit s m) (k : PartsKept s m pa
       (rest_is s.six m.six parts.six f.six k.six i)
       (rest_is s.seven m.seven parts.seven f.seven k.seven i)
       []
-      (rest_is s.kept m.kept parts.kept f.kept k.kept i)
-      (rest_is s.marks m.marks parts.marks f.marks k.marks i)
 
   pub answered_lent : (a : Asked) (p : Pod) (r : LineSaid) (o o' : List ℕ) (at : ℕ) → LineAnswered a p (lent_at s m) parts r o o' at
       → LineAnswered a p (lent_at s m) (lent_at s (come_back s m parts)) r o o' at

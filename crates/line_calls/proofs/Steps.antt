@@ -8,14 +8,15 @@ use lib.ListN.{take}
 use Rattle.rows.specs.Rows.{Said, gave, out}
 use Rattle.blocks.specs.declared.Store.{Store}
 use Rattle.blocks.specs.declared.Store.TheVariants.{Priority, Ordinary}
-use Rattle.presets.specs.Tables.{three}
+use Rattle.tables.specs.Tables.{three}
+use Rattle.tables.specs.Port.{desk}
 use Rattle.pipe.specs.Input.{sent_packet, sent_bytes}
 use Rattle.rules.specs.declared.Pod.{Pod}
 use Rattle.rules.specs.declared.Called.{Called}
 use Rattle.rules.specs.declared.Worded.{Worded}
 use Rattle.rules.specs.declared.Passed.{Passed}
 use Rattle.rules.specs.declared.Framed.{Framed}
-use Rattle.rules.specs.State.{with_words, store_in, desk_in}
+use Rattle.rules.specs.State.{with_words, store_in}
 use Rattle.rules.specs.Refusals.{Giving, done, answer_said}
 use Rattle.rules.specs.Families.{WordCall, PipeCall}
 use Rattle.rules.specs.Families as family
@@ -33,18 +34,17 @@ use Rattle.line_calls.proofs.Short.{packet_said}
 
 -- the memory with one part changed
 abbrev pub with_store_at : Store → List ℕ → Memory → Memory
-with_store_at Priority x m = memory m.room x m.ordinary m.five m.six m.seven m.load m.kept m.marks
-with_store_at Ordinary x m = memory m.room m.priority x m.five m.six m.seven m.load m.kept m.marks
+with_store_at Priority x m = memory m.room x m.ordinary m.five m.six m.seven m.load
+with_store_at Ordinary x m = memory m.room m.priority x m.five m.six m.seven m.load
 
 abbrev pub with_tables_at : List ℕ → List ℕ → List ℕ → Memory → Memory
-with_tables_at five six seven m = memory m.room m.priority m.ordinary five six seven m.load m.kept m.marks
+with_tables_at five six seven m = memory m.room m.priority m.ordinary five six seven m.load
 
 abbrev pub with_room_at : List ℕ → Memory → Memory
-with_room_at room m = memory room m.priority m.ordinary m.five m.six m.seven m.load m.kept m.marks
+with_room_at room m = memory room m.priority m.ordinary m.five m.six m.seven m.load
 
--- all that a data word in is lent
-abbrev pub with_desk_at : List ℕ → List ℕ → List ℕ → List ℕ → List ℕ → List ℕ → Memory → Memory
-with_desk_at five six seven load kept marks m = memory m.room m.priority m.ordinary five six seven load kept marks
+abbrev pub with_load_at : List ℕ → Memory → Memory
+with_load_at load m = memory m.room m.priority m.ordinary m.five m.six m.seven load
 
 -- the step, what it tells, and what is printed
 answered_by : (a : Asked) (p : Pod) (m m' : Memory) (r : LineSaid) (o o' : List ℕ) (at : ℕ) (s : Said Giving) (bs text : List ℕ) (q : Pod)
@@ -147,8 +147,8 @@ module _ (p : Pod) (m : Memory) (r : LineSaid) (o o' : List ℕ) (at : ℕ) wher
   module _ (c : Worded) (q : r.pod ≡ with_words c.words p) where
     abbrev Leaves : WordCall → Memory → Type 0
     Leaves x m' =
-        out (answer_said c.answer) (with_words c.words p) (desk_in (lent_in m'))
-        ≡ word_call x (desk_in (lent_in m)) p
+        out (answer_said c.answer) (with_words c.words p) (desk (three m'.five m'.six m'.seven) m'.load)
+        ≡ word_call x (desk (three m.five m.six m.seven) m.load) p
 
     abbrev Prints : ℕ → Type 0
     Prints letter = Printed (said_line (plain letter) (answer_said c.answer) []) at r.at o o'
@@ -159,11 +159,11 @@ module _ (p : Pod) (m : Memory) (r : LineSaid) (o o' : List ℕ) (at : ℕ) wher
     by_command v five six seven e t =
         answered_by (command v) p m (with_tables_at five six seven m) r o o' at (answer_said c.answer) [] _ (with_words c.words p) (ap (λ x. over_desk x w) (sym e)) refl refl q t
 
-    pub by_data : (v : ℕ) (five six seven load kept marks : List ℕ) → Leaves (family.data_in v) (with_desk_at five six seven load kept marks m)
-        → Prints letter_w → LineAnswered (data_in v) p m (with_desk_at five six seven load kept marks m) r o o' at
+    pub by_data : (v : ℕ) (five six seven load : List ℕ) → Leaves (family.data_in v) (with_load_at load (with_tables_at five six seven m)) → Prints letter_w
+        → LineAnswered (data_in v) p m (with_load_at load (with_tables_at five six seven m)) r o o' at
     unfolding line_step call_of step line_text form_of room_after
-    by_data v five six seven load kept marks e t =
-        answered_by (data_in v) p m (with_desk_at five six seven load kept marks m) r o o' at (answer_said c.answer) [] _ (with_words c.words p) (ap (λ x. over_desk x w) (sym e)) refl refl q t
+    by_data v five six seven load e t =
+        answered_by (data_in v) p m (with_load_at load (with_tables_at five six seven m)) r o o' at (answer_said c.answer) [] _ (with_words c.words p) (ap (λ x. over_desk x w) (sym e)) refl refl q t
 
     pub by_read : Leaves family.data_out m → Prints letter_r → LineAnswered data_out p m m r o o' at
     unfolding line_step call_of step line_text form_of room_after

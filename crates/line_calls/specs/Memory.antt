@@ -4,8 +4,7 @@ use Rattle.std.specs.Prelude.{ℕ, ◌*◌, ◌≤◌, List, [], length, take, d
 use Rattle.blocks.specs.declared.Store.TheVariants.{Priority, Ordinary}
 use Rattle.blocks.specs.Stores.{capacity_of}
 use Rattle.orders.specs.declared.Table.TheVariants.{Five, Six, Seven}
-use Rattle.presets.specs.Tables.{three, table_size}
-use Rattle.presets.specs.Presets.{presets}
+use Rattle.tables.specs.Tables.{three, table_size}
 use Rattle.rules.specs.State.{Lent}
 use Rattle.line_calls.specs.declared.Sizes.{Sizes}
 
@@ -18,33 +17,30 @@ pub record Memory : Type 0 where
   pub six : List ℕ
   pub seven : List ℕ
   pub load : List ℕ
-  pub kept : List ℕ
-  pub marks : List ℕ
 
-abbrev pub memory : List ℕ → List ℕ → List ℕ → List ℕ → List ℕ → List ℕ → List ℕ → List ℕ → List ℕ → Memory
-memory room p o five six seven load kept marks =
-    record { room = room; priority = p; ordinary = o; five = five; six = six; seven = seven; load = load; kept = kept; marks = marks }
+abbrev pub memory : List ℕ → List ℕ → List ℕ → List ℕ → List ℕ → List ℕ → List ℕ → Memory
+memory room p o five six seven load =
+    record { room = room; priority = p; ordinary = o; five = five; six = six; seven = seven; load = load }
 
 abbrev pub lent_in : Memory → Lent
-lent_in m =
-    record { priority = m.priority; ordinary = m.ordinary; tables = three m.five m.six m.seven; load = m.load; presets = presets m.kept m.marks }
+lent_in m = record { priority = m.priority; ordinary = m.ordinary; tables = three m.five m.six m.seven; load = m.load }
 
 -- each thing is lent at a size: so much of it from its start. The words of a load are always lent whole
 abbrev pub lent_at : Sizes → Memory → Memory
 lent_at s m =
     memory (take s.room m.room) (take s.priority m.priority) (take s.ordinary m.ordinary) (take s.five m.five)
-    (take s.six m.six) (take s.seven m.seven) m.load (take s.kept m.kept) (take s.marks m.marks)
+    (take s.six m.six) (take s.seven m.seven) m.load
 
 -- "a lent store or table is not its exact size", "answer room under 260 bytes": the sizes that are never refused
 abbrev pub right_sizes : Sizes
 right_sizes =
-    record { room = 260; priority = capacity_of Priority * 256; ordinary = capacity_of Ordinary * 256; five = table_size Five; six = table_size Six; seven = table_size Seven; kept = 1024; marks = 12 }
+    record { room = 260; priority = capacity_of Priority * 256; ordinary = capacity_of Ordinary * 256; five = table_size Five; six = table_size Six; seven = table_size Seven }
 
 -- what lies behind it
 abbrev pub behind : Sizes → Memory → Memory
 behind s m =
     memory (drop s.room m.room) (drop s.priority m.priority) (drop s.ordinary m.ordinary) (drop s.five m.five)
-    (drop s.six m.six) (drop s.seven m.seven) [] (drop s.kept m.kept) (drop s.marks m.marks)
+    (drop s.six m.six) (drop s.seven m.seven) []
 
 -- no size is over that of the thing
 pub record SizesFit (s : Sizes) (m : Memory) : Type 0 where
@@ -54,5 +50,3 @@ pub record SizesFit (s : Sizes) (m : Memory) : Type 0 where
   pub five : s.five ≤ length m.five
   pub six : s.six ≤ length m.six
   pub seven : s.seven ≤ length m.seven
-  pub kept : s.kept ≤ length m.kept
-  pub marks : s.marks ≤ length m.marks

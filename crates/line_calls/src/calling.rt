@@ -23,13 +23,11 @@ pub fn reply(
     six: &mut [u16],
     seven: &mut [u16],
     load: &mut [u16; 64],
-    kept: &mut [u16],
-    marks: &mut [u8],
     out: &mut [u8],
     at: usize,
 ) -> LineSaid
     requires { at + 784 ≤ length out.old }
-    ensures { LineAnswered (heard_line line bytes.now words.now) pod (memory room.old priority.old ordinary.old five.old six.old seven.old load.old kept.old marks.old) (memory room.new priority.new ordinary.new five.new six.new seven.new load.new kept.new marks.new) result out.old out.new at }
+    ensures { LineAnswered (heard_line line bytes.now words.now) pod (memory room.old priority.old ordinary.old five.old six.old seven.old load.old) (memory room.new priority.new ordinary.new five.new six.new seven.new load.new) result out.old out.new at }
 {
     match line {
         Line::Packet(n) => {
@@ -69,7 +67,7 @@ pub fn reply(
         ),
         Line::Data(word) => worded(
             pod,
-            pod::data_in(pod, word, load, five, six, seven, kept, marks),
+            pod::data_in(pod, word, load, five, six, seven),
             b'W',
             out,
             at,

@@ -20,8 +20,6 @@ pub fn right_sizes() -> Sizes
         five: 64,
         six: 128,
         seven: 64,
-        kept: 1024,
-        marks: 12,
     }
 }
 
@@ -39,14 +37,12 @@ pub fn answer(
     six: &mut [u16],
     seven: &mut [u16],
     load: &mut [u16; 64],
-    kept: &mut [u16],
-    marks: &mut [u8],
     out: &mut [u8],
     at: usize,
 ) -> LineSaid
-    requires sizes_fit { SizesFit sizes (memory room.old priority.old ordinary.old five.old six.old seven.old load.old kept.old marks.old) }
+    requires sizes_fit { SizesFit sizes (memory room.old priority.old ordinary.old five.old six.old seven.old load.old) }
     requires at_in_bounds { at + 784 ≤ length out.old }
-    ensures { LentAnswered (heard_line line bytes.now words.now) pod sizes (memory room.old priority.old ordinary.old five.old six.old seven.old load.old kept.old marks.old) (memory room.new priority.new ordinary.new five.new six.new seven.new load.new kept.new marks.new) result out.old out.new at }
+    ensures { LentAnswered (heard_line line bytes.now words.now) pod sizes (memory room.old priority.old ordinary.old five.old six.old seven.old load.old) (memory room.new priority.new ordinary.new five.new six.new seven.new load.new) result out.old out.new at }
 {
     let a = sizes.room;
     let p = sizes.priority;
@@ -54,8 +50,6 @@ pub fn answer(
     let f = sizes.five;
     let s = sizes.six;
     let v = sizes.seven;
-    let k = sizes.kept;
-    let m = sizes.marks;
     reply(
         line,
         pod,
@@ -68,8 +62,6 @@ pub fn answer(
         &mut six[..s],
         &mut seven[..v],
         load,
-        &mut kept[..k],
-        &mut marks[..m],
         out,
         at,
     )

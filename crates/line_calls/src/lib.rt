@@ -13,7 +13,7 @@ pub struct LineSaid {
     pub at: usize,
 }
 
-// How much of each thing is lent: bytes of the answer room and of the stores, words of the tables and of the presets, marks.
+// How much of each thing is lent: bytes of the answer room and of the stores, words of the tables.
 #[derive(Drop)]
 pub struct Sizes {
     pub room: usize,
@@ -22,6 +22,4 @@ pub struct Sizes {
     pub five: usize,
     pub six: usize,
     pub seven: usize,
-    pub kept: usize,
-    pub marks: usize,
 }

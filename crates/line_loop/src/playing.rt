@@ -15,8 +15,6 @@ pub fn play(program: Program) {
     let mut six = [0u16; 1152];
     let mut seven = [0u16; 1088];
     let mut load = [0u16; 64];
-    let mut kept = [0u16; 2048];
-    let mut marks = [0u8; 1036];
     let mut out = io::large_buffer();
     run(
         program,
@@ -31,8 +29,6 @@ pub fn play(program: Program) {
         &mut six,
         &mut seven,
         &mut load,
-        &mut kept,
-        &mut marks,
         &mut out,
     );
 }

@@ -58,8 +58,6 @@ pub fn run(
     six: &mut [u16; 1152],
     seven: &mut [u16; 1088],
     load: &mut [u16; 64],
-    kept: &mut [u16; 2048],
-    marks: &mut [u8; 1036],
     out: &mut [u8; 65536],
 ) {
     let mut desk = pieces::start();
@@ -82,8 +80,6 @@ pub fn run(
             six,
             seven,
             load,
-            kept,
-            marks,
             out,
         );
         let gathered = standing.between;
@@ -105,8 +101,6 @@ pub fn run(
             six,
             seven,
             load,
-            kept,
-            marks,
             out,
         );
         flush(out, spoken.at);

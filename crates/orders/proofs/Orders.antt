@@ -4,18 +4,17 @@ use mathlib.Core.Bool.{true, false, not, cond}
 use borrow.Author.Tests.{ne_eqb}
 use native.Mathlib.Omega.{arith}
 use mathlib.Core.List.{List}
-use Prim.Native.Nat.{ℕ, ◌-◌, ◌<◌}
-use lib.Dec.{leb, eqb}
+use Prim.Native.Nat.{ℕ, ◌<◌}
+use lib.Dec.{eqb}
 use lib.ListN.{length, get_or}
 use Rattle.rows.proofs.Bool.{and-false}
 use Rattle.orders.proofs.Lengths.{allowed_has}
 use Rattle.orders.specs.declared.Table.{Table}
 use Rattle.orders.specs.declared.Table.TheVariants.{Five, Six, Seven}
-use Rattle.orders.specs.declared.Way.TheVariants.{Store, Fetch}
 use Rattle.orders.specs.declared.Parts.{Parts}
 use Rattle.orders.specs.declared.Order.{Order}
-use Rattle.orders.specs.declared.Order.TheVariants.{Other, Stop, Restart, Next, Writing, Reading, Preset}
-use Rattle.orders.specs.Command.{writes, length_allowed, table_asked, preset_asked, order_of, order_said}
+use Rattle.orders.specs.declared.Order.TheVariants.{Other, Stop, Restart, Next, Writing, Reading}
+use Rattle.orders.specs.Command.{writes, length_allowed, table_asked, order_of, order_said}
 
 -- an even count of ones is not accepted, whatever else the word says
 pub even_other : (p : Parts) → not p.odd ≡ true → order_of p ≡ Other
@@ -49,11 +48,11 @@ module _ (p : Parts) (odd : not p.odd ≡ false) where
   is_table e =
       rw (odd, other_length p 0 0 (omega arith) e, other_length p 0 1 (omega arith) e, other_length p 1 1 (omega arith) e, e)
 
-  -- all else: a preset's command or none
-  pub is_preset_lem : writes p 0 0 ≡ false → writes p 0 1 ≡ false → writes p 1 1 ≡ false → length_allowed p.n ≡ false
-      → order_of p ≡ preset_asked p
+  -- all else
+  pub is_other : writes p 0 0 ≡ false → writes p 0 1 ≡ false → writes p 1 1 ≡ false → length_allowed p.n ≡ false
+      → order_of p ≡ Other
   unfolding order_of
-  is_preset_lem a b d e = rw (odd, a, b, d, e)
+  is_other a b d e = rw (odd, a, b, d, e)
 
 -- ---- the numbers are one-to-one
 
@@ -65,9 +64,7 @@ numbered : ℕ → ℕ → ℕ → Order
 numbered direction c n =
     cond (eqb direction 1) (Reading (table_numbered c) n)
     (cond (eqb c 0) (cond (eqb n 0) Stop Restart)
-    (cond (eqb c 1) Next
-    (cond (leb c 7) (Writing (table_numbered c) n)
-    (cond (leb c 12) (Preset Store (table_numbered (c - 5))) (Preset Fetch (table_numbered (c - 9)))))))
+    (cond (eqb c 1) Next (Writing (table_numbered c) n)))
 
 said_back : List ℕ → Order
 said_back l = cond (eqb (length l) 0) Other (numbered (get_or l 0 0) (get_or l 1 0) (get_or l 2 0))
@@ -84,12 +81,6 @@ read_back (Writing Seven n) = refl
 read_back (Reading Five n) = refl
 read_back (Reading Six n) = refl
 read_back (Reading Seven n) = refl
-read_back (Preset Store Five) = refl
-read_back (Preset Store Six) = refl
-read_back (Preset Store Seven) = refl
-read_back (Preset Fetch Five) = refl
-read_back (Preset Fetch Six) = refl
-read_back (Preset Fetch Seven) = refl
 
 -- two orders with the same numbers are one
 pub order_said_one : (a b : Order) → order_said a ≡ order_said b → a ≡ b

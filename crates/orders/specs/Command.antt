@@ -1,24 +1,17 @@
 -- The command word: its parts, and what it asks for.
-use Rattle.std.specs.Prelude.{ℕ, ◌+◌, ◌/◌, ◌%◌, ◌^◌, Bool, not, ◌&&◌, cond, List, [], ◌∷◌, leb, eqb}
+use Rattle.std.specs.Prelude.{ℕ, ◌/◌, ◌%◌, ◌^◌, Bool, not, ◌&&◌, cond, List, [], ◌∷◌, leb, eqb}
 use Rattle.std.specs.Int.Count.{ones}
 use Rattle.orders.specs.declared.Table.{Table}
 use Rattle.orders.specs.declared.Table.TheVariants.{Five, Six, Seven}
-use Rattle.orders.specs.declared.Way.{Way}
-use Rattle.orders.specs.declared.Way.TheVariants.{Store, Fetch}
 use Rattle.orders.specs.declared.Parts.{Parts}
 use Rattle.orders.specs.declared.Order.{Order}
-use Rattle.orders.specs.declared.Order.TheVariants.{Other, Stop, Restart, Next, Writing, Reading, Preset}
+use Rattle.orders.specs.declared.Order.TheVariants.{Other, Stop, Restart, Next, Writing, Reading}
 
 -- a table's number is the command that loads and reads it
 abbrev pub table_number : Table → ℕ
 table_number Five = 5
 table_number Six = 6
 table_number Seven = 7
-
--- request No. 6: "10, 11 and 12 (store the current table 5, 6 or 7 in a preset) and 14, 15 and 16 (fetch it back)"
-abbrev pub preset_command : Way → Table → ℕ
-preset_command Store t = 5 + table_number t
-preset_command Fetch t = 9 + table_number t
 
 -- the count of ones is odd
 unfoldable pub odd_ones : ℕ → Bool
@@ -54,19 +47,7 @@ table_asked p =
     (cond (eqb p.command 7) (transfer_asked Seven p)
     Other))
 
--- these six writing, "each with one data word"
-abbrev pub preset_asked : Parts → Order
-preset_asked p =
-    cond (writes p (preset_command Store Five) 1) (Preset Store Five)
-    (cond (writes p (preset_command Store Six) 1) (Preset Store Six)
-    (cond (writes p (preset_command Store Seven) 1) (Preset Store Seven)
-    (cond (writes p (preset_command Fetch Five) 1) (Preset Fetch Five)
-    (cond (writes p (preset_command Fetch Six) 1) (Preset Fetch Six)
-    (cond (writes p (preset_command Fetch Seven) 1) (Preset Fetch Seven)
-    Other)))))
-
--- accepted: the count of ones is odd, and command 0 writing, N 0 or 1; 1 writing, N 1; 5, 6, 7 writing or reading, N 4 to 64; and those of
--- presets
+-- accepted: the count of ones is odd, and command 0 writing, N 0 or 1; 1 writing, N 1; 5, 6, 7 writing or reading, N 4 to 64
 unfoldable pub order_of : Parts → Order
 order_of p =
     cond (not p.odd) Other
@@ -74,7 +55,7 @@ order_of p =
     (cond (writes p 0 1) Restart
     (cond (writes p 1 1) Next
     (cond (length_allowed p.n) (table_asked p)
-    (preset_asked p)))))
+    Other))))
 
 -- any while not initialised is not accepted
 unfoldable pub order_heard : Bool → ℕ → Order
@@ -88,4 +69,3 @@ order_said Restart = 0 ∷ 0 ∷ 1 ∷ []
 order_said Next = 0 ∷ 1 ∷ 1 ∷ []
 order_said (Writing t n) = 0 ∷ table_number t ∷ n ∷ []
 order_said (Reading t n) = 1 ∷ table_number t ∷ n ∷ []
-order_said (Preset y t) = 0 ∷ preset_command y t ∷ 1 ∷ []

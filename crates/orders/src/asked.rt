@@ -1,8 +1,8 @@
 // What a command word asks for, by its parts.
 ghost use Rattle.std.specs.Prelude.{◌≡◌, ◌≤◌};
-ghost use Rattle.orders.specs.Command.{parts_of, writes, length_allowed, transfer_asked, table_asked, preset_asked, order_of, order_heard, order_said};
+ghost use Rattle.orders.specs.Command.{parts_of, writes, length_allowed, transfer_asked, table_asked, order_of, order_heard, order_said};
 
-use crate::{Order, Parts, Table, Way};
+use crate::{Order, Parts, Table};
 
 // The parts of a command word. All sixteen bits count for the parity, bit 15 too.
 fn parts(word: u16) -> Parts
@@ -50,48 +50,6 @@ fn writes(p: Parts, command: u16, n: u16) -> bool
     !p.reads & ((p.command == command) & (p.n == n))
 }
 
-fn preset_order(p: Parts) -> Order
-    ensures { result ≡ preset_asked p }
-{
-    if writes(p, 10, 1) {
-        return Order::Preset {
-            way: Way::Store,
-            table: Table::Five,
-        };
-    }
-    if writes(p, 11, 1) {
-        return Order::Preset {
-            way: Way::Store,
-            table: Table::Six,
-        };
-    }
-    if writes(p, 12, 1) {
-        return Order::Preset {
-            way: Way::Store,
-            table: Table::Seven,
-        };
-    }
-    if writes(p, 14, 1) {
-        return Order::Preset {
-            way: Way::Fetch,
-            table: Table::Five,
-        };
-    }
-    if writes(p, 15, 1) {
-        return Order::Preset {
-            way: Way::Fetch,
-            table: Table::Six,
-        };
-    }
-    if writes(p, 16, 1) {
-        return Order::Preset {
-            way: Way::Fetch,
-            table: Table::Seven,
-        };
-    }
-    Order::Other
-}
-
 pub fn allowed(n: u16) -> bool
     ensures { result ≡ length_allowed n }
 {
@@ -117,7 +75,7 @@ fn order(p: Parts) -> Order
     if writes(p, 1, 1) {
         return Order::Next;
     }
-    preset_order(p)
+    Order::Other
 }
 
 // What a command word asks for, of a pod that is initialised or not.

@@ -10,13 +10,6 @@ pub enum Table {
     Seven,
 }
 
-// What is done with a preset: the table is stored in it, or fetched back.
-#[derive(Drop)]
-pub enum Way {
-    Store,
-    Fetch,
-}
-
 // The parts of a command word.
 #[derive(Drop)]
 pub struct Parts {
@@ -35,5 +28,4 @@ pub enum Order {
     Next,
     Writing { table: Table, n: u8 },
     Reading { table: Table, n: u8 },
-    Preset { way: Way, table: Table },
 }

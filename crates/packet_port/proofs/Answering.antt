@@ -20,8 +20,7 @@ use Rattle.packets.specs.declared.Parsed.TheVariants.{Asked}
 use Rattle.packets.specs.Reading.{packet_read}
 use Rattle.packets.specs.Answers.{Written}
 use Rattle.packets.proofs.Laws.{nothing}
-use Rattle.presets.specs.Tables.{Three, starts}
-use Rattle.presets.specs.Presets.{presets}
+use Rattle.tables.specs.Tables.{Three, starts}
 use Rattle.rules.specs.declared.Pod.{Pod}
 use Rattle.rules.specs.declared.Obeyed.{Obeyed}
 use Rattle.rules.specs.State.{Lent, store_in, with_stores, with_tables, ring_of, sound_pod}
@@ -45,7 +44,7 @@ asked_some (b ∷ bs) c e = omega arith
 
 -- what a promise says whatever is lent, it says of nothing
 pub bare : Lent
-bare = record { priority = []; ordinary = []; tables = starts; load = []; presets = presets [] [] }
+bare = record { priority = []; ordinary = []; tables = starts; load = [] }
 
 -- ---- a command leaves a sound pod, and a block that it shows waits
 

@@ -9,7 +9,7 @@ use Rattle.rows.specs.Rows.{Clear, none, past}
 use Rattle.rows.proofs.Bool.{and_left, and_right, not-false}
 use Rattle.blocks.specs.declared.Store.TheVariants.{Priority, Ordinary}
 use Rattle.blocks.specs.Stores.{store_sized}
-use Rattle.presets.specs.Tables.{Three, tables_sized}
+use Rattle.tables.specs.Tables.{Three, tables_sized}
 use Rattle.rules.specs.declared.Pod.{Pod}
 use Rattle.rules.specs.State.{Lent, with_stores, with_tables}
 use Rattle.rules.specs.Calls.{roomed, packet_rows}

@@ -5,7 +5,7 @@ use Rattle.rows.specs.Rows.{Said, gave, Out, out, given}
 use Rattle.blocks.specs.declared.Store.{Store}
 use Rattle.blocks.specs.declared.Store.TheVariants.{Priority, Ordinary}
 use Rattle.blocks.specs.Stores.{capacity_of}
-use Rattle.presets.specs.Tables.{starts}
+use Rattle.tables.specs.Tables.{starts}
 use Rattle.rules.specs.declared.Pod.{Pod}
 use Rattle.rules.specs.State.{Lent, with_tables, ring_of, sound_pod}
 use Rattle.rules.specs.Refusals.{bytes}

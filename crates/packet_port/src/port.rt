@@ -3,7 +3,7 @@ ghost use Rattle.std.specs.Prelude.{◌≡◌, cond, length};
 ghost use Rattle.rows.specs.Rows.{out, given};
 ghost use Rattle.packets.specs.Reading.{packet_read};
 ghost use Rattle.packets.specs.Answers.{Written};
-ghost use Rattle.presets.specs.Tables.{three, starts};
+ghost use Rattle.tables.specs.Tables.{three, starts};
 ghost use Rattle.rules.specs.State.{Lent, with_stores, with_tables, sound_pod};
 ghost use Rattle.rules.specs.Refusals.{answer_said};
 ghost use Rattle.rules.specs.Obey.{reply_said, shut, obey_of};
@@ -112,7 +112,7 @@ fn restart(yes: bool, five: &mut [u16], six: &mut [u16], seven: &mut [u16])
     if !yes {
         return;
     }
-    presets::to_starts(five, six, seven);
+    tables::to_starts(five, six, seven);
 }
 
 // The rows of a packet, of a pod whose bounds were judged: the verdict is handed in, and not the pod.

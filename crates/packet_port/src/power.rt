@@ -1,7 +1,7 @@
 // Power on, and the deadline of an exchange.
 ghost use Rattle.std.specs.Prelude.{◌≡◌, []};
 ghost use Rattle.rows.specs.Rows.{out};
-ghost use Rattle.presets.specs.Tables.{three};
+ghost use Rattle.tables.specs.Tables.{three};
 ghost use Rattle.pipe.specs.Input.{sent_packet};
 ghost use Rattle.rules.specs.Refusals.{answer_said};
 ghost use Rattle.rules.specs.Families.{deadline};
@@ -20,7 +20,7 @@ pub fn power_on(pod: Pod, five: &mut [u16], six: &mut [u16], seven: &mut [u16]) 
             pod,
         };
     }
-    presets::to_starts(five, six, seven);
+    tables::to_starts(five, six, seven);
     Called {
         answer: Answer::Done,
         pod: fresh_pod(),

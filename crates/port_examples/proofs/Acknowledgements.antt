@@ -19,8 +19,7 @@ use Rattle.params.specs.Rules.{is_id, in_rows, filter, missing_ids, missing_of, 
 use Rattle.blocks.specs.Stores.{store_sized, sound_ring, place_behind, block_at, blocks_from, blocks_in, oldest_of, put_ring, put_store, dropped_ring}
 use Rattle.tables.specs.Bounds.{sound_places, sound_transfer, sound_words}
 use Rattle.tables.specs.Port.{start_words, close_of}
-use Rattle.presets.specs.Tables.{listed, start_table, tables_sized}
-use Rattle.presets.specs.Presets.{presets_sized, marks_right}
+use Rattle.tables.specs.Tables.{listed, start_table, tables_sized}
 use Rattle.pipe.specs.Input.{empty_input, fresh_input, sound_input, sent_packet, sent_bytes}
 use Rattle.pipe.specs.Output.{fresh_output, sound_output}
 use Rattle.pipe.specs.Pipe.{fresh_pipe, sound_pipe}
@@ -34,7 +33,7 @@ use Rattle.port_examples.specs.Packets.{Talks, Stock}
 use Rattle.port_examples.specs.Acknowledgements.{acknowledged90, AllKeep, Acknowledgements}
 
 talked : Talks just_initialised acknowledged90
-unfolding ran poly leaving bit_in bits bits_in crc_from crc_of with_crc answer_of error_answer field_bytes body_of command_bytes laid_out numbers_at fields_of fields_in fields_bounded find_in listed_in code_row is_code command_place command_row high_first number_of number_at crc_right acknowledges packet_read is_id in_rows filter missing_ids missing_of same_list list_kept sound_params start_params store_sized sound_ring sound_places sound_transfer sound_words start_words close_of listed start_table tables_sized presets_sized marks_right sent_packet sent_bytes empty_input fresh_input sound_input fresh_output sound_output fresh_pipe sound_pipe packet_heard meant_body reply_bytes spoken_bytes answered packet_call lone_call lone_of checks_of initialised_pod done_by obey_of just_initialised fresh_fields fresh_pod restful sound_pod step tells status_body place_behind block_at blocks_from blocks_in oldest_of put_ring put_store dropped_ring put_call matches drop_from settled acknowledged_of report_of final power_call
+unfolding ran poly leaving bit_in bits bits_in crc_from crc_of with_crc answer_of error_answer field_bytes body_of command_bytes laid_out numbers_at fields_of fields_in fields_bounded find_in listed_in code_row is_code command_place command_row high_first number_of number_at crc_right acknowledges packet_read is_id in_rows filter missing_ids missing_of same_list list_kept sound_params start_params store_sized sound_ring sound_places sound_transfer sound_words start_words close_of listed start_table tables_sized sent_packet sent_bytes empty_input fresh_input sound_input fresh_output sound_output fresh_pipe sound_pipe packet_heard meant_body reply_bytes spoken_bytes answered packet_call lone_call lone_of checks_of initialised_pod done_by obey_of just_initialised fresh_fields fresh_pod restful sound_pod step tells status_body place_behind block_at blocks_from blocks_in oldest_of put_ring put_store dropped_ring put_call matches drop_from settled acknowledged_of report_of final power_call
 talked = refl
 
 others_kept : (one : Bool) (l : Lent) (g : Stock) → AllKeep Closed one l g × AllKeep Status one l g × AllKeep Read one l g

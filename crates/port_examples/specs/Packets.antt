@@ -14,7 +14,7 @@ use Rattle.rules.specs.Families.{status, byte, timeout, packet_out, taken, deadl
 use Rattle.rules.specs.World.{World, world, Call, power, packet, put, word, lone, samples, told, next, final, tells}
 use Rattle.rules.specs.Demands.{blank}
 use Rattle.rules.specs.Kept.{fields_listed}
-use Rattle.examples.specs.Shown.{never_stored, just_initialised, ComputedLine, line, AsExpected}
+use Rattle.examples.specs.Shown.{just_initialised, ComputedLine, line, AsExpected}
 use Rattle.examples.specs.Computed.{sent_after, bytes_in, TalkTurn, asks, brings, dusty}
 
 -- a world tells what each turn expects
@@ -172,7 +172,7 @@ stocked x g =
 
 -- what is open after some calls, one block waiting in each store
 abbrev pub open_then : List Call → Exchange → Exchange
-open_then cs x = (final (world (stocked x (record { pod = initialised_pod updated; waiting = 0; remaining = 0 })) (blank never_stored)) cs).pod.exchange
+open_then cs x = (final (world (stocked x (record { pod = initialised_pod updated; waiting = 0; remaining = 0 })) blank) cs).pod.exchange
 
 -- "its remaining falls by 1", and no other field changes; an Update keeps gathered bytes
 abbrev pub exchanges : List ComputedLine

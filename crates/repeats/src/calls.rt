@@ -16,7 +16,6 @@ pub enum Word {
     In,
     Out,
     Status,
-    Message,
 }
 
 #[derive(Drop)]
@@ -50,7 +49,6 @@ pub fn call_of(letter: u8) -> Call {
         b'W' => Call::Word(Word::In),
         b'R' => Call::Word(Word::Out),
         b'S' => Call::Word(Word::Status),
-        b'M' => Call::Word(Word::Message),
         b'I' => Call::Pipe(Flow::Byte),
         b'T' => Call::Pipe(Flow::Timeout),
         b'O' => Call::Pipe(Flow::Out),
@@ -89,29 +87,21 @@ fn load_word(turn: usize) -> u16 {
     }
 }
 
-// Of two calls of a message the first is its data word and the second its command word, for the next.
 pub fn worded(
     kind: Word,
     pod: Pod,
-    first: u16,
     word: u16,
     turn: usize,
     load: &mut [u16; 64],
     five: &mut [u16; 64],
     six: &mut [u16; 128],
     seven: &mut [u16; 64],
-    kept: &mut [u16; 1024],
-    marks: &mut [u8; 12],
 ) -> Worded {
     match kind {
         Word::Command => pod::command_word(pod, word, five, six, seven),
-        Word::In => pod::data_in(pod, load_word(turn), load, five, six, seven, kept, marks),
+        Word::In => pod::data_in(pod, load_word(turn), load, five, six, seven),
         Word::Out => pod::data_out(pod, five, six, seven),
         Word::Status => pod::status_word(pod),
-        Word::Message => match turn % 2 {
-            0 => pod::data_in(pod, word, load, five, six, seven, kept, marks),
-            _ => pod::command_word(pod, first, five, six, seven),
-        },
     }
 }
 

@@ -1,9 +1,9 @@
 // One call, repeated: what two runs differ by, that differ in the number of calls alone, is what those calls cost.
 //
-// Input is a line: a letter of the console's table, or `Y` for the CRC of 258 bytes, or `M` for messages of a command word and a
-// data word, and bytes: how many blocks wait in the ordinary store, the number of calls, high byte first, and what is handed in:
-// a packet or a block, or for the table words two command words, one that is sent first and one that is repeated, for messages
-// the command word and the data word. The last answer is printed, and `?` for any other line.
+// Input is a line: a letter of the console's table, or `Y` for the CRC of 258 bytes, and bytes: how many blocks wait in
+// the ordinary store, the number of calls, high byte first, and what is handed in: a packet or a block, or for the table
+// words two command words, one that is sent first and one that is repeated. The last answer is printed, and `?` for any
+// other line.
 mod calls;
 mod setup;
 mod turns;

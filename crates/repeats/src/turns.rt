@@ -8,7 +8,6 @@ fn repeated(
     call: Call,
     times: usize,
     start: Pod,
-    first: u16,
     word: u16,
     bytes: &[u8],
     message: &mut [u8; 258],
@@ -19,8 +18,6 @@ fn repeated(
     five: &mut [u16; 64],
     six: &mut [u16; 128],
     seven: &mut [u16; 64],
-    kept: &mut [u16; 1024],
-    marks: &mut [u8; 12],
 ) -> Answer {
     let mut pod = start;
     let mut answer = Answer::Done;
@@ -33,9 +30,7 @@ fn repeated(
                 answer = called.answer;
             }
             Call::Word(kind) => {
-                let said = worded(
-                    kind, pod, first, word, turn, load, five, six, seven, kept, marks,
-                );
+                let said = worded(kind, pod, word, turn, load, five, six, seven);
                 let words = said.words;
                 pod.words = words;
                 answer = said.answer;
@@ -56,8 +51,7 @@ fn repeated(
     answer
 }
 
-// The same, with what is lent. Table words have a command word before them, the first of the two that are given. Of each table the
-// presets 0 to 2 are stored, and 3 is not.
+// The same, with what is lent. Table words have a command word before them, the first of the two that are given.
 pub fn prepared(
     call: Call,
     times: usize,
@@ -72,8 +66,6 @@ pub fn prepared(
     let mut five = [0u16; 64];
     let mut six = [7u16; 128];
     let mut seven = [0u16; 64];
-    let mut kept = [9u16; 1024];
-    let mut marks = [1u8, 1, 1, 0, 1, 1, 1, 0, 1, 1, 1, 0];
     fill(&mut message);
     fill(&mut ordinary);
     let given = two_words(bytes);
@@ -87,7 +79,6 @@ pub fn prepared(
         call,
         times,
         pod,
-        given[0],
         given[1],
         bytes,
         &mut message,
@@ -98,7 +89,5 @@ pub fn prepared(
         &mut five,
         &mut six,
         &mut seven,
-        &mut kept,
-        &mut marks,
     )
 }

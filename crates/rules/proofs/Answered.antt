@@ -3,16 +3,14 @@
 -- Assumes nothing.
 use Prim.Native.Nat.{ℕ}
 use mathlib.Core.Path.{◌≡◌, refl, sym, ap, ◌∙◌}
-use mathlib.Core.Bool.{Bool, true, false}
+use mathlib.Core.Bool.{true, false}
 use mathlib.Core.List.{List, [], ◌∷◌, ◌++◌}
-use Rattle.rows.specs.Rows.{First, Clear, refused, gave, rising}
-use Rattle.rows.proofs.Bool.{never, not-true}
+use Rattle.rows.specs.Rows.{Row, First, Clear, refused, gave, rising}
+use Rattle.rows.proofs.Bool.{by-test, never, not-true}
 use Rattle.rows.proofs.Laws.{never_both, first_one, refused_same, gave_not}
 use Rattle.rows.proofs.Lowest.{lowest}
-use Rattle.tables.specs.Port.{Desk}
-use Rattle.rules.specs.declared.Pod.{Pod}
 use Rattle.rules.specs.State.{desk_in}
-use Rattle.rules.specs.Refusals.{Giving, done}
+use Rattle.rules.specs.Refusals.{Giving, done, state_row}
 use Rattle.rules.specs.Traits.{traits}
 use Rattle.rules.specs.Calls.{reach_of}
 use Rattle.rules.specs.World.{World, Call, power, packet, put, word, lone, samples, room_of, Told, Stepped, stepped, is_answered, is_refused, step, rows_of}
@@ -22,7 +20,7 @@ use Rattle.rules.specs.Numbered.{rows_rise}
 use Rattle.rules.specs.Said.{gives_number, gives_bytes, SaysDone}
 use Rattle.rules.proofs.Lone.{lone_rise, lone_is, unsent}
 use Rattle.rules.proofs.Happens.{Happens, by_rows, by_power, by_empty, by_damage, by_acknowledgement, by_check, by_command, by_put, by_word, by_lone, by_samples, happens}
-use Rattle.rules.proofs.WordRows.{rows_by, rowed}
+use Rattle.rules.proofs.WordRows.{rowed}
 
 -- how a call ends: refused by its first row that holds, or answered
 pub data Ends (w : World) (c : Call) (s : Stepped) : Type 0 where
@@ -73,20 +71,13 @@ refused_unchanged w c n s = on (ends (happens w c))
     on (stopped m f e) = rw (← refused_same (sym (says e) ∙ s)) e
     on (answered g k e) = absurd (gave_not (sym e ∙ s))
 
-rise_by : (lent presets : Bool) (d : Desk) (p : Pod) → rising 0 (rows_by lent presets d p) ≡ true
-unfolding rising
-rise_by true true d p = refl
-rise_by true false d p = refl
-rise_by false true d p = refl
-rise_by false false d p = refl
-
 rows_rise_lem : (w : World) (c : Call) → rows_rise c ≡ true → rising 0 (rows_of w c) ≡ true
 unfolding rising rows_of
 rows_rise_lem w power up = refl
 rows_rise_lem w (packet b room) up = refl
 rows_rise_lem w (put s b) up = refl
 rows_rise_lem w (word c) up =
-    rw ((rowed c).rows (desk_in w.lent) w.pod) (rise_by (traits c).lent (traits c).presets (desk_in w.lent) w.pod)
+    rw ((rowed c).rows w.lent.tables) (by-test (λ (rs : List Row). rising 0 (rs ++ (state_row w.pod ∷ [])) ≡ true) (traits c).lent (λ e. refl) (λ e. refl))
 rows_rise_lem w (lone c) up = lone_rise c w.pod up
 rows_rise_lem w (samples k xs) up = refl
 

@@ -8,20 +8,19 @@ use Prim.Native.Nat.{ℕ}
 use lib.ListN.{length}
 use Rattle.rows.proofs.Laws.{ran-two}
 use Rattle.packets.specs.declared.Command.TheVariants.{Shutdown}
-use Rattle.presets.specs.Tables.{starts}
+use Rattle.tables.specs.Tables.{starts}
 use Rattle.tables.specs.Port.{close_of}
 use Rattle.rules.specs.declared.Exchange.TheVariants.{Closed}
 use Rattle.rules.specs.State.{Lent, with_initialised, with_words, fresh_pod, sound_pod, with_tables}
 use Rattle.rules.specs.Obey.{shut, done_by}
 use Rattle.rules.specs.Calls.{power_call, answered}
 use Rattle.rules.specs.World.{World, world, with_pod, packet, Stepped, step, next, over_tables}
-use Rattle.rules.specs.Pairs.{kept_of, sizes_in, Seen, seen_in, ShutsDown, Asleep}
+use Rattle.rules.specs.Pairs.{sizes_in, Seen, seen_in, ShutsDown, Asleep}
 use Rattle.rules.specs.Demands.{AnswerAlike, AsleepFromPower, AsleepFromShutdown}
 use Rattle.rules.proofs.Eventful.{sound_at}
 use Rattle.rules.proofs.Inside.{in_pod, fresh_in}
 use Rattle.rules.proofs.Sound.{sound_next}
 use Rattle.rules.proofs.Accepted.{accepted}
-use Rattle.rules.proofs.Presets.{kept_lends}
 use Rattle.rules.proofs.Sleepers.{tables_same, disguise, sleepers, sleep_tells}
 
 pub answer_alike : AnswerAlike
@@ -40,18 +39,17 @@ answer_alike v w z cs =
       ordinary = q.ordinary;
       pipe = (same i).pipe;
     } in
-    let pair = sleepers v.pod q.params q.priority q.ordinary v.lent w.lent (ap (λ (s : Seen). s.sizes) same)
-    (kept_lends v.lent.presets w.lent.presets (ap (λ (s : Seen). s.kept) same)) z.off in
+    let pair = sleepers v.pod q.params q.priority q.ordinary v.lent w.lent (ap (λ (s : Seen). s.sizes) same) z.off in
     sleep_tells cs v w (rw pod at pair) z.first z.second
 
 -- ---- from power
 
 -- two fresh pods
-fresh_asleep : (l m : Lent) → sizes_in l ≡ sizes_in m → kept_of l.presets ≡ kept_of m.presets → Asleep (world fresh_pod l) (world fresh_pod m)
+fresh_asleep : (l m : Lent) → sizes_in l ≡ sizes_in m → Asleep (world fresh_pod l) (world fresh_pod m)
 unfolding fresh_pod
-fresh_asleep l m e k =
+fresh_asleep l m e =
     record {
-      seen = λ i. record { initialised = false; fields = fresh_pod.fields; exchange = Closed; words = fresh_pod.words; pipe = fresh_pod.pipe; sizes = e i; kept = k i };
+      seen = λ i. record { initialised = false; fields = fresh_pod.fields; exchange = Closed; words = fresh_pod.words; pipe = fresh_pod.pipe; sizes = e i };
       first = in_pod fresh_in;
       second = in_pod fresh_in;
       off = refl;
@@ -72,11 +70,11 @@ starts_alike l m e =
 -- "From power-on to the first accepted Initialise"
 pub asleep_from_power : AsleepFromPower
 unfolding step power_call
-asleep_from_power l m e k =
+asleep_from_power l m e =
     let v = world fresh_pod l in
     let w = world fresh_pod m in
-    ran-two (λ o q. Asleep (over_tables o v).world (over_tables q w).world) (rw (tables_same l m e (kept_lends l.presets m.presets k))) (λ n. fresh_asleep l m e k)
-    (λ clear. fresh_asleep (with_tables starts l) (with_tables starts m) (starts_alike l m e) k)
+    ran-two (λ o q. Asleep (over_tables o v).world (over_tables q w).world) (rw (tables_same l m e)) (λ n. fresh_asleep l m e)
+    (λ k. fresh_asleep (with_tables starts l) (with_tables starts m) (starts_alike l m e))
 
 -- ---- from Shutdown
 
@@ -104,7 +102,6 @@ asleep_from_shutdown b room v w same h k =
       words = close_of (same i).words;
       pipe = (same i).pipe;
       sizes = (same i).sizes;
-      kept = (same i).kept;
     } in
     record {
       seen = ap seen_in (off-world b room v h) ∙ seen ∙ sym (ap seen_in (off-world b room w k));

@@ -5,8 +5,8 @@ use Prim.Native.Nat.{ℕ}
 use mathlib.Core.Path.{◌≡◌, refl, ap}
 use mathlib.Core.Bool.{Bool, true, false, not}
 use mathlib.Core.List.{List, [], ◌∷◌, ◌++◌}
-use Rattle.rows.specs.Rows.{Clear, none, past}
-use Rattle.rows.proofs.Bool.{and_both}
+use Rattle.rows.specs.Rows.{Row, Clear, none, past}
+use Rattle.rows.proofs.Bool.{by-test}
 use Rattle.rows.proofs.Laws.{ran_clear}
 use Rattle.blocks.specs.declared.Store.{Store}
 use Rattle.packets.specs.declared.Command.{Command}
@@ -16,14 +16,15 @@ use Rattle.tables.specs.declared.Transfer.TheVariants.{Idle}
 use Rattle.tables.specs.Port.{start_words, close_of}
 use Rattle.rules.specs.State.{desk_in, fresh_pod}
 use Rattle.rules.specs.Obey.{initialised_pod, done_by}
+use Rattle.rules.specs.Refusals.{state_row}
 use Rattle.rules.specs.Families.{WordCall, LoneCall}
 use Rattle.rules.specs.Traits.{traits}
 use Rattle.rules.specs.Calls.{answered, word_call, packet_heard, spoken_bytes, reply_bytes}
 use Rattle.rules.specs.World.{World, Call, power, packet, put, word, lone, samples, Stepped, step, rows_of, next, final}
 use Rattle.rules.specs.History.{Event, words, obeyed_as, event_of}
-use Rattle.rules.specs.Transfers.{Fit, Fed, cuts}
+use Rattle.rules.specs.Transfers.{Fit, cuts}
 use Rattle.rules.proofs.Happens.{Happens, by_rows, by_power, by_empty, by_damage, by_acknowledgement, by_check, by_command, by_put, by_lone, by_samples, obeying, wording}
-use Rattle.rules.proofs.WordRows.{rows_by, rowed}
+use Rattle.rules.proofs.WordRows.{rowed}
 use Rattle.rules.proofs.Succeeded.{error_fails, room_at}
 use Rattle.rules.proofs.Eventful.{command_succeeds}
 use Rattle.rules.proofs.Untouched.{acknowledged_untouched}
@@ -36,38 +37,20 @@ final_then w (c ∷ bs) cs = final_then (next w c) bs cs
 
 -- ---- a table word
 
-clear_by : (lent : Bool) {w : World} → Fit w → Clear (rows_by lent false (desk_in w.lent) w.pod)
-clear_by true h = past (ap not h.tables) (past (ap not h.sound) none)
-clear_by false h = past (ap not h.sound) none
-
-fed_by : (lent presets : Bool) {w : World} → Fed w → Clear (rows_by lent presets (desk_in w.lent) w.pod)
-fed_by lent false h = clear_by lent h.fit
-fed_by true true h = past (ap not (and_both h.fit.tables h.presets)) (past (ap not (and_both h.fit.sound h.marks)) none)
-fed_by false true h = past (ap not (and_both h.fit.sound h.marks)) none
-
-fed_clear : {w : World} → Fed w → (x : WordCall) → Clear (rows_of w (word x))
+fit_clear : {w : World} → Fit w → (x : WordCall) → Clear (rows_of w (word x))
 unfolding rows_of
-fed_clear {w} h x = rw ((rowed x).rows (desk_in w.lent) w.pod) (fed_by (traits x).lent (traits x).presets h)
-
--- one that is not lent the presets
-pub fit_clear : {w : World} → Fit w → (x : WordCall) → (traits x).presets ≡ false → Clear (rows_of w (word x))
-unfolding rows_of
-fit_clear {w} h x e = rw ((rowed x).rows (desk_in w.lent) w.pod, e) (clear_by (traits x).lent h)
+fit_clear {w} h x =
+    let last = past (ap not h.sound) none in
+    rw ((rowed x).rows w.lent.tables) (by-test (λ (rs : List Row). Clear (rs ++ (state_row w.pod ∷ []))) (traits x).lent (λ e. past (ap not h.tables) last) (λ e. last))
 
 -- in a world that is fit for it it takes place
-word_clear : (w : World) (x : WordCall) → Clear (rows_of w (word x)) → step w (word x) ≡ wording x w
+pub word_fit : (w : World) → Fit w → (x : WordCall) → step w (word x) ≡ wording x w
 unfolding step rows_of word_call
-word_clear w x k = rw (ran_clear w.pod (desk_in w.lent) _ k)
+word_fit w h x = rw (ran_clear w.pod (desk_in w.lent) _ (fit_clear h x))
 
-pub word_fed : (w : World) → Fed w → (x : WordCall) → step w (word x) ≡ wording x w
-word_fed w h x = word_clear w x (fed_clear h x)
-
-pub word_fit : (w : World) → Fit w → (x : WordCall) → (traits x).presets ≡ false → step w (word x) ≡ wording x w
-word_fit w h x e = word_clear w x (fit_clear h x e)
-
-pub word_event : (w : World) → Fed w → (x : WordCall) → event_of (word x) (step w (word x)).told ≡ words x
+pub word_event : (w : World) → Fit w → (x : WordCall) → event_of (word x) (step w (word x)).told ≡ words x
 unfolding event_of
-word_event w h x = ap (λ (s : Stepped). event_of (word x) s.told) (word_fed w h x)
+word_event w h x = ap (λ (s : Stepped). event_of (word x) s.told) (word_fit w h x)
 
 -- ---- any other call
 

@@ -26,7 +26,7 @@ use Rattle.packets.specs.Reading.{packet_read, crc_right}
 use Rattle.packets.specs.Answers.{with_crc, answer_of, error_answer, done_answer, status_answer, value_answer, data_answer}
 use Rattle.packets.proofs.Laws.{answer_right_lem, done-length, status_length, value_length, data_length}
 use Rattle.params.proofs.Inside.{kept-length}
-use Rattle.presets.specs.Tables.{tables_sized}
+use Rattle.tables.specs.Tables.{tables_sized}
 use Rattle.rules.specs.declared.Pod.{Pod}
 use Rattle.rules.specs.State.{Lent, store_in, ring_of, fresh_pod}
 use Rattle.rules.specs.Obey.{initialised_pod, shut, checks_of, receive_checks, done_by, received, exchange_code, report_of}

@@ -4,20 +4,17 @@
 use Prim.Native.Nat.{ℕ, ◌+◌, ◌<◌}
 use native.Mathlib.Nat.{add-zero}
 use mathlib.Core.Path.{◌≡◌, refl, sym, ap, ◌∙◌}
-use mathlib.Core.Bool.{Bool, true, false, not, ◌||◌}
+use mathlib.Core.Bool.{Bool, true, false}
 use mathlib.Core.List.{List, [], ◌∷◌}
 use lib.ListN.{set}
 use borrow.Author.Tests.{lt-ltb}
-use Rattle.rows.specs.Rows.{Clear, none, past, Out, out}
-use Rattle.rows.proofs.Bool.{not-false, and_left, and_right}
+use Rattle.rows.specs.Rows.{Out, out}
 use Rattle.tables.specs.declared.Header.{Header}
 use Rattle.tables.specs.declared.Words.{Words}
 use Rattle.tables.specs.declared.Answered.{Answered}
 use Rattle.tables.specs.declared.Transfer.{Transfer}
 use Rattle.tables.specs.declared.Transfer.TheVariants.{Idle, Load, Read}
-use Rattle.presets.specs.Tables.{Three, tables_sized}
-use Rattle.presets.specs.Presets.{Presets, presets_sized, marks_right}
-use Rattle.presets.proofs.Lends.{Lends}
+use Rattle.tables.specs.Tables.{Three}
 use Rattle.orders.specs.Command.{order_heard}
 use Rattle.tables.specs.Port.{Desk, desk, Tabled, tabled, with_transfer, close_of, wrong_way, command_of, word_taken, data_in_of, read_next, word_given, data_out_of, status_of}
 use Rattle.tables.specs.Bounds.{sound_words}
@@ -27,12 +24,8 @@ use Rattle.tables.proofs.Limits.{sound_places_lem, sound_transfer_lem, both_soun
 use Rattle.tables.proofs.Stale.{gathered as came_of, data_in_unseen}
 use Rattle.tables.proofs.Loading.{load_more}
 use Rattle.tables.proofs.Obeying.{given_by}
-use Rattle.rules.specs.declared.Pod.{Pod}
-use Rattle.rules.specs.State.{sound_pod}
 use Rattle.rules.specs.Refusals.{Giving, done, reads}
-use Rattle.rules.specs.Families.{WordCall, command, data_in, data_out, status, word_written, word_read, word_of, word_lent, word_state}
-use Rattle.rules.specs.Calls.{word_rows}
-use Rattle.rules.specs.Fetched.{fetches}
+use Rattle.rules.specs.Families.{WordCall, command, data_in, data_out, status, word_written, word_read, word_of}
 use Rattle.rules.specs.Traits.{traits}
 use Rattle.rules.proofs.WordsAlike.{Gathered, none_came, SameDesk, same-desk, obeyed-none, given-none, unseen_same}
 
@@ -49,8 +42,8 @@ pub record Dormant (c : WordCall) (w : Words) : Type 0 where
 
 -- it closes it, and what it says and leaves goes by no word of it
 pub record Cuts (c : WordCall) : Type 0 where
-  pub blind : (on : Bool) (w : Words) (h : Header) (k : ℕ) (t : Three) (l m : List ℕ) (s : Presets)
-      → let o = word_of c on (with_transfer (Load h 0) w) (desk t m s) in word_of c on (with_transfer (Load h k) w) (desk t l s) ≡ out o.said o.pod (desk o.lent.tables l o.lent.presets)
+  pub blind : (on : Bool) (w : Words) (h : Header) (k : ℕ) (t : Three) (l m : List ℕ)
+      → let o = word_of c on (with_transfer (Load h 0) w) (desk t m) in word_of c on (with_transfer (Load h k) w) (desk t l) ≡ out o.said o.pod (desk o.lent.tables l)
   pub none : (on : Bool) (w : Words) (d : Desk) → came_of (word_of c on w d).pod.transfer ≡ 0
   pub load : (on : Bool) (w : Words) (d : Desk) → (word_of c on w d).lent.load ≡ d.load
 
@@ -58,7 +51,7 @@ pub record Cuts (c : WordCall) : Type 0 where
 pub record Brings (c : WordCall) (x : ℕ) : Type 0 where
   pub pod : (on : Bool) (w : Words) (d : Desk) (h : Header) (k : ℕ) → k + 1 < h.n → (word_of c on (with_transfer (Load h k) w) d).pod ≡ with_transfer (Load h (k + 1)) w
   pub lent : (on : Bool) (w : Words) (d : Desk) (h : Header) (k : ℕ) → k + 1 < h.n
-      → (word_of c on (with_transfer (Load h k) w) d).lent ≡ desk d.tables (set d.load k x) d.presets
+      → (word_of c on (with_transfer (Load h k) w) d).lent ≡ desk d.tables (set d.load k x)
 
 -- it leaves any transfer and all that is lent, and looks at neither
 pub record Leaves (c : WordCall) : Type 0 where
@@ -89,10 +82,9 @@ pub data WithRead (c : WordCall) : Type 0 where
 pub record Fares (c : WordCall) : Type 0 where
   pub sound : (on : Bool) (w : Words) (d : Desk) → sound_words w ≡ true → sound_words (word_of c on w d).pod ≡ true
   pub asleep : (w : Words) → w.transfer ≡ Idle → Dormant c w
-  -- of two loads of which the same words have come, and presets that are alike, where no row holds and no fetch is made that may differ
-  pub alike : (free on : Bool) (p : Pod) (w : Words) (t : Three) (l m : List ℕ) (s r : Presets) → Clear (word_rows c (desk t l s) p)
-      → (free || not (fetches w.transfer c)) ≡ true → sound_words w ≡ true → Gathered (came_of w.transfer) l m → Lends free s r
-      → SameDesk free (word_of c on w (desk t l s)) (word_of c on w (desk t m r))
+  -- of two loads of which the same words have come
+  pub alike : (on : Bool) (w : Words) (t : Three) (l m : List ℕ) → sound_words w ≡ true → Gathered (came_of w.transfer) l m
+      → SameDesk (word_of c on w (desk t l)) (word_of c on w (desk t m))
   pub load : WithLoad c
   pub read : WithRead c
 
@@ -102,28 +94,16 @@ command_fares x =
     record {
       sound = λ on w d h. command_sound on x (tabled w d) h;
       asleep = λ w e. record { said = _; words = _; idle = wrong_idle w; is = λ d. ap word_written (off-command x (tabled w d)) };
-      alike = λ free on p w t l m s r k f h g x. same-desk done _ _ l m s r (none_came _ (obeyed-none (order_heard on _) w) g.long) x;
-      load = cutting refl (record { blind = λ on w h k t l m s. refl; none = λ on w d. obeyed-none (order_heard on x) w; load = λ on w d. refl });
+      alike = λ on w t l m h g. same-desk done _ _ l m (none_came _ (obeyed-none (order_heard on x) w) g.long);
+      load = cutting refl (record { blind = λ on w h k t l m. refl; none = λ on w d. obeyed-none (order_heard on x) w; load = λ on w d. refl });
       read = ending refl;
     }
 
 -- a word of a load, not its last
 next_word : (x : ℕ) (w : Words) (d : Desk) (h : Header) (k : ℕ) → k + 1 < h.n
-    → data_in_of x (tabled (with_transfer (Load h k) w) d) ≡ tabled (with_transfer (Load h (k + 1)) w) (desk d.tables (set d.load k x) d.presets)
+    → data_in_of x (tabled (with_transfer (Load h k) w) d) ≡ tabled (with_transfer (Load h (k + 1)) w) (desk d.tables (set d.load k x))
 unfolding data_in_of word_taken
 next_word x w d h k i = load_more h k x (tabled (with_transfer (Load h k) w) d) i
-
--- what no row refuses has its sizes and right marks
-data_in_alike : (x : ℕ) (free on : Bool) (p : Pod) (w : Words) (t : Three) (l m : List ℕ) (s r : Presets) → Clear (word_rows (data_in x) (desk t l s) p)
-    → (free || not (fetches w.transfer (data_in x))) ≡ true → sound_words w ≡ true → Gathered (came_of w.transfer) l m → Lends free s r
-    → SameDesk free (word_of (data_in x) on w (desk t l s)) (word_of (data_in x) on w (desk t m r))
-unfolding word_of word_lent word_state
-data_in_alike x free on p w t l m s r (past a (past b none)) f h g z =
-    let tables = tables_sized t in
-    let sized = presets_sized s in
-    unseen_same free _ _
-    (data_in_unseen free x w t l m s r g.long z (and_left tables sized (not-false a)) (and_right tables sized (not-false a))
-    (and_right (sound_pod p) (marks_right s.marks) (not-false b)) h f g.came)
 
 data_in_fares : (x : ℕ) → Fares (data_in x)
 unfolding word_of
@@ -131,7 +111,7 @@ data_in_fares x =
     record {
       sound = λ on w d h. data_in_sound x (tabled w d) h;
       asleep = λ w e. record { said = _; words = _; idle = wrong_idle w; is = λ d. ap word_written (idle_in x (tabled w d) e) };
-      alike = data_in_alike x;
+      alike = λ on w t l m h g. unseen_same _ _ (data_in_unseen x w t l m g.long h g.came);
       load = bringing x refl refl
           (record { pod = λ on w d h k i. ap (λ (y : Tabled). y.words) (next_word x w d h k i); lent = λ on w d h k i. ap (λ (y : Tabled). y.desk) (next_word x w d h k i) });
       read = ending refl;
@@ -155,8 +135,8 @@ data_out_fares =
     record {
       sound = λ on w d h. data_out_sound w d.tables h;
       asleep = λ w e. record { said = _; words = _; idle = refl; is = λ d. ap (λ (a : Answered). word_read a d) (idle_out w d.tables e) };
-      alike = λ free on p w t l m s r k f h g x. same-desk _ _ _ l m s r (none_came _ (given-none w.transfer w t) g.long) x;
-      load = cutting refl (record { blind = λ on w h k t l m s. refl; none = λ on w d. given-none w.transfer w d.tables; load = λ on w d. refl });
+      alike = λ on w t l m h g. same-desk _ _ _ l m (none_came _ (given-none w.transfer w t) g.long);
+      load = cutting refl (record { blind = λ on w h k t l m. refl; none = λ on w d. given-none w.transfer w d.tables; load = λ on w d. refl });
       read = going word_on;
     }
 
@@ -166,7 +146,7 @@ status_fares =
     record {
       sound = λ on w d h. both_sound _ (sound_places_lem w h) (sound_transfer_lem w h);
       asleep = λ w e. record { said = _; words = _; idle = e; is = λ d. refl };
-      alike = λ free on p w t l m s r k f h g x. same-desk _ _ _ l m s r g x;
+      alike = λ on w t l m h g. same-desk _ _ _ l m g;
       load = leaving refl refl (record { pod = λ on u w d e. refl; lent = λ on w d. refl });
       read = going (λ on w d h k at e i. record { transfer = e ∙ ap (λ (j : ℕ). Read h j at) (sym (add-zero k)); places = refl; given = refl; lent = refl });
     }

@@ -14,19 +14,18 @@ use Rattle.tables.specs.declared.Header.{Header}
 use Rattle.tables.specs.declared.Words.{Words}
 use Rattle.tables.specs.declared.Transfer.{Transfer}
 use Rattle.tables.specs.declared.Transfer.TheVariants.{Load}
-use Rattle.presets.specs.Tables.{tables_sized}
-use Rattle.presets.specs.Presets.{presets_sized, marks_right}
+use Rattle.tables.specs.Tables.{tables_sized}
 use Rattle.tables.specs.Port.{Desk, Tabled}
 use Rattle.rules.specs.State.{desk_in, sound_pod, with_words, with_desk}
 use Rattle.rules.specs.Families.{WordCall, word_of}
 use Rattle.rules.specs.Traits.{traits}
 use Rattle.rules.specs.World.{World, world, Call, word, Stepped, step, next, final}
 use Rattle.rules.specs.History.{Event, event_of, events}
-use Rattle.rules.specs.Transfers.{Fit, Fed, cuts, cuts_load, left_open, call_written, written_in, others_in}
+use Rattle.rules.specs.Transfers.{Fit, cuts, cuts_load, left_open, call_written, written_in, others_in}
 use Rattle.rules.proofs.Happens.{happens}
 use Rattle.rules.proofs.Fares.{Brings, Leaves, WithLoad, cutting, bringing, leaving, fares}
 use Rattle.rules.proofs.Sound.{sound_next}
-use Rattle.rules.proofs.Between.{word_fed, word_event, Other, powers, sends, puts, touches, shows, Which, says, other, which, Ported, apart, ends, ported}
+use Rattle.rules.proofs.Between.{word_fit, word_event, Other, powers, sends, puts, touches, shows, Which, says, other, which, Ported, apart, ends, ported}
 use Rattle.rules.proofs.Holding.{hold, beside, sound_held, other-held}
 
 -- no other call than a table word writes one
@@ -41,73 +40,56 @@ written_none (shows k xs) = refl
 abbrev pub laid : Tabled → World → World
 laid y w = world (with_words y.words w.pod) (with_desk y.desk w.lent)
 
--- what is lent as before is fit as before
-pub fit_still : (z v : World) → Fit z → sound_pod v.pod ≡ true → desk_in v.lent ≡ desk_in z.lent → Fit v
-fit_still z v f s d =
-    record {
-      tables = ap (λ (x : Desk). tables_sized x.tables) d ∙ f.tables;
-      sound = s;
-      load = ap (λ (x : Desk). length x.load) d ∙ f.load;
-    }
-
-fed_still : (z v : World) → Fed z → sound_pod v.pod ≡ true → desk_in v.lent ≡ desk_in z.lent → Fed v
-fed_still z v f s d =
-    record {
-      fit = fit_still z v f.fit s d;
-      presets = ap (λ (x : Desk). presets_sized x.presets) d ∙ f.presets;
-      marks = ap (λ (x : Desk). marks_right x.presets.marks) d ∙ f.marks;
-    }
-
 module _ (h : Header) where
   -- a load is open, no word of which has come
   pub record Open (z : World) : Type 0 where
-    pub fed : Fed z
+    pub fit : Fit z
     pub transfer : z.pod.words.transfer ≡ Load h 0
 
   -- the world with k words of it come
   abbrev pub along : ℕ → List ℕ → World → World
   along k l z = hold (Load h k) l z
 
-  pub fit_along : (k : ℕ) (l : List ℕ) (z : World) → Open z → length l ≡ 64 → k < h.n → Fed (along k l z)
+  pub fit_along : (k : ℕ) (l : List ℕ) (z : World) → Open z → length l ≡ 64 → k < h.n → Fit (along k l z)
   fit_along k l z o long i =
       record {
-        fit = record { tables = o.fed.fit.tables; sound = sound_held h k i l z 0 (omega arith) o.transfer ∙ o.fed.fit.sound; load = long };
-        presets = o.fed.presets;
-        marks = o.fed.marks;
+        tables = o.fit.tables;
+        sound = sound_held h k i l z 0 (omega arith) o.transfer ∙ o.fit.sound;
+        load = long;
       }
 
   -- a call that leaves the port leaves it open
   open_next : (z v : World) → Open z → sound_pod v.pod ≡ true → v.pod.words.transfer ≡ z.pod.words.transfer → desk_in v.lent ≡ desk_in z.lent → Open v
   open_next z v o s t d =
       record {
-        fed = fed_still z v o.fed s d;
+        fit = record { tables = ap (λ (x : Desk). tables_sized x.tables) d ∙ o.fit.tables; sound = s; load = ap (λ (x : Desk). length x.load) d ∙ o.fit.load };
         transfer = t ∙ o.transfer;
       }
 
   -- a table word that brings one word more
-  gathers : (c : WordCall) (x k : ℕ) (l : List ℕ) (z : World) → Brings c x → Fed (along k l z) → k + 1 < h.n
+  gathers : (c : WordCall) (x k : ℕ) (l : List ℕ) (z : World) → Brings c x → Fit (along k l z) → k + 1 < h.n
       → next (along k l z) (word c) ≡ along (suc k) (set l k x) z
   gathers c x k l z b f i =
       let v = along k l z in
       let on = z.pod.initialised in
       let w = z.pod.words in
       let d = desk_in v.lent in
-      ap (λ (y : Stepped). y.world) (word_fed v f c)
+      ap (λ (y : Stepped). y.world) (word_fit v f c)
       ∙ (λ j. world (with_words (b.pod on w d h k i j) z.pod) (with_desk (b.lent on w d h k i j) z.lent))
       ∙ ap (λ (j : ℕ). along j (set l k x) z) (add-one k)
 
   -- and one that leaves the load
-  passed_by : (c : WordCall) (k : ℕ) (l : List ℕ) (z : World) → Leaves c → Fed (along k l z) → Fed z → next (along k l z) (word c) ≡ along k l (next z (word c))
+  passed_by : (c : WordCall) (k : ℕ) (l : List ℕ) (z : World) → Leaves c → Fit (along k l z) → Fit z → next (along k l z) (word c) ≡ along k l (next z (word c))
   passed_by c k l z p f g =
       let v = along k l z in
       let on = z.pod.initialised in
       let w = z.pod.words in
       let d = desk_in z.lent in
       let e = desk_in v.lent in
-      ap (λ (y : Stepped). y.world) (word_fed v f c)
+      ap (λ (y : Stepped). y.world) (word_fit v f c)
       ∙ (λ j. world (with_words (p.pod on (Load h k) w e d j) z.pod) (with_desk (p.lent on v.pod.words e j) z.lent))
       ∙ ap (λ (x : Desk). along k l (world (with_words (word_of c on w d).pod z.pod) (with_desk x z.lent))) (sym (p.lent on w d))
-      ∙ ap (λ (y : Stepped). along k l y.world) (sym (word_fed z g c))
+      ∙ ap (λ (y : Stepped). along k l y.world) (sym (word_fit z g c))
 
   -- through some calls: the words that came, over what the other calls alone make of the world
   pub record Passed (cs : List Call) (k : ℕ) (l : List ℕ) (z : World) : Type 0 where
@@ -135,7 +117,7 @@ module _ (h : Header) where
         let same = ap (λ (x : Words). x.transfer) kept.words in
         let so = ap (λ (y : Stepped). y.world) (other-held h k (omega arith) l z 0 (omega arith) o.transfer q) in
         alike c (written_none q) (so ∙ ap (λ (u : Transfer). hold (beside (Load h k) u) l (next z c)) (same ∙ o.transfer))
-        (open_next z (next z c) o (sound_next z c o.fed.fit.sound) same kept.desk) kept.desk more n
+        (open_next z (next z c) o (sound_next z c o.fit.sound) same kept.desk) kept.desk more n
     other_passes q (ends e v f t m) i more n = never (f cuts_load) i
 
     -- a table word
@@ -158,10 +140,10 @@ module _ (h : Header) where
     left c p d more n =
         let on = z.pod.initialised in
         let at = desk_in z.lent in
-        let so = word_fed z o.fed c in
+        let so = word_fit z o.fit c in
         let kept = ap (λ (y : Stepped). desk_in y.world.lent) so ∙ p.lent on z.pod.words at in
-        alike (word c) d (passed_by c k l z p (fit_along k l z o long (omega arith)) o.fed)
-        (open_next z (next z (word c)) o (sound_next z (word c) o.fed.fit.sound)
+        alike (word c) d (passed_by c k l z p (fit_along k l z o long (omega arith)) o.fit)
+        (open_next z (next z (word c)) o (sound_next z (word c) o.fit.sound)
         (ap (λ (y : Stepped). y.world.pod.words.transfer) so ∙ ap (λ (v : Words). v.transfer) (p.pod on z.pod.words.transfer z.pod.words at at)) kept)
         kept more n
 

@@ -15,7 +15,7 @@ use Rattle.packets.specs.declared.Parsed.TheVariants.{Nothing, Error, Acknowledg
 use Rattle.packets.specs.Commands.{command_row}
 use Rattle.packets.specs.Reading.{packet_read}
 use Rattle.packets.specs.Answers.{error_answer}
-use Rattle.presets.specs.Tables.{starts}
+use Rattle.tables.specs.Tables.{starts}
 use Rattle.pipe.specs.Input.{sent_bytes, sent_packet}
 use Rattle.rules.specs.declared.Pod.{Pod}
 use Rattle.rules.specs.State.{fresh_pod, store_in, with_tables, desk_in}
@@ -114,7 +114,7 @@ happens w (packet b room) =
 happens w (put s b) =
     ran-case (λ o. Happens w (put s b) (over_store s o w)) (put_rows s b (store_in s w.lent) w.pod)
     (λ n f. rw (store_same s w.lent) (by_rows (put s b) n f)) (by_put s b)
-happens w (word c) = ran-case (λ o. Happens w (word c) (over_desk o w)) (word_rows c (desk_in w.lent) w.pod) (by_rows (word c)) (by_word c)
+happens w (word c) = ran-case (λ o. Happens w (word c) (over_desk o w)) (word_rows c w.lent.tables w.pod) (by_rows (word c)) (by_word c)
 happens w (lone c) = ran-case (λ o. Happens w (lone c) (over_sent o w)) (lone_rows c w.pod) (by_rows (lone c)) (by_lone c)
 happens w (samples k xs) =
     ran-case (λ o. Happens w (samples k xs) (over_frames o w)) (samples_rows k xs w.pod) (by_rows (samples k xs)) (by_samples k xs)

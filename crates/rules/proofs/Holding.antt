@@ -24,7 +24,7 @@ use Rattle.tables.specs.declared.Words.{Words}
 use Rattle.tables.specs.declared.Transfer.{Transfer}
 use Rattle.tables.specs.declared.Transfer.TheVariants.{Idle, Load}
 use Rattle.tables.specs.Bounds.{sound_transfer, sound_words}
-use Rattle.presets.specs.Tables.{starts}
+use Rattle.tables.specs.Tables.{starts}
 use Rattle.tables.specs.Port.{desk, is_open, with_error, with_transfer, start_words, close_of}
 use Rattle.params.specs.Rules.{stored}
 use Rattle.rules.specs.declared.Exchange.{Exchange}
@@ -39,7 +39,7 @@ use Rattle.rules.proofs.Between.{Other, powers, sends, puts, touches, shows}
 
 -- with other words of a load
 abbrev with_load : List ℕ → Lent → Lent
-with_load l t = with_desk (desk t.tables l t.presets) t
+with_load l t = with_desk (desk t.tables l) t
 
 -- with another transfer
 abbrev holding : Transfer → Pod → Pod

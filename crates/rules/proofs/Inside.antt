@@ -15,7 +15,7 @@ use Rattle.params.specs.declared.Params.{Params}
 use Rattle.params.specs.Rules.{sound_params}
 use Rattle.params.proofs.Inside.{start_sound as params-start}
 use Rattle.tables.specs.declared.Transfer.{Transfer}
-use Rattle.tables.specs.declared.Transfer.TheVariants.{Idle, Address, Load, Read as Reads, Preset}
+use Rattle.tables.specs.declared.Transfer.TheVariants.{Idle, Address, Load, Read as Reads}
 use Rattle.tables.specs.declared.Words.{Words}
 use Rattle.tables.specs.declared.Given.{Given}
 use Rattle.tables.specs.Bounds.{sound_words}
@@ -82,7 +82,6 @@ idle_is Idle h = refl
 idle_is Address h = never refl h
 idle_is (Load t k) h = never refl h
 idle_is (Reads t k at) h = never refl h
-idle_is (Preset y t) h = never refl h
 
 closed_is : (x : Exchange) → is_closed x ≡ true → x ≡ Closed
 closed_is Closed h = refl

@@ -91,4 +91,4 @@ drop_guarded s w b room first one a h g = on (happens w (packet b room)) (answer
 
 pub fresh_is : FreshIs
 unfolding fresh_fields fresh_pod
-fresh_is s = rw (powered_fresh (blank s))
+fresh_is = rw (powered_fresh blank)

@@ -30,10 +30,7 @@ pub mod Checked
 pub mod Judged
 pub mod Kept
 pub mod Listed
-pub mod May
-pub mod Presets
 pub mod Twins
-pub mod Unfetched
 pub mod Said
 pub mod Between
 pub mod ReadWhole
@@ -48,5 +45,4 @@ pub mod LoadCut
 pub mod PortOnly
 pub mod TransferOnly
 pub mod PortHistory
-pub mod Fetching
 pub mod Whole

@@ -2,7 +2,7 @@
 -- does; power on makes a fresh state of any.
 -- Assumes nothing.
 use mathlib.Core.Path.{◌≡◌, refl, ap, ◌∙◌}
-use mathlib.Core.Bool.{Bool, true, false, not, ◌||◌, false≢true}
+use mathlib.Core.Bool.{true, false, false≢true}
 use Rattle.rows.specs.Rows.{Clear, past}
 use Rattle.rows.proofs.Laws.{never_both}
 use Rattle.rows.proofs.Bool.{not-false}
@@ -24,23 +24,19 @@ use Rattle.rules.proofs.Answered.{answered_clear}
 use Rattle.rules.proofs.Numbered.{all_clear}
 use Rattle.rules.proofs.Asked.{report_is}
 
-neither : (a b : Bool) → (a || b) ≡ false → a ≡ false
-neither true b h = h
-neither false b h = refl
-
 -- what is answered was handed a state within its bounds
 answered_sound : (w : World) (c : Call) → judges_state c ≡ true → is_answered w c ≡ true → sound_pod w.pod ≡ true
 unfolding rows_in_order
 answered_sound w c h a = on c h (third (all_clear w c (answered_clear w c a)))
   where
-    third : Clear (rows_in_order w c) → state_broken c w.pod w.lent ≡ false
+    third : Clear (rows_in_order w c) → state_broken c w.pod ≡ false
     third (past room (past size (past state rest))) = state
 
-    on : (c : Call) → judges_state c ≡ true → state_broken c w.pod w.lent ≡ false → sound_pod w.pod ≡ true
+    on : (c : Call) → judges_state c ≡ true → state_broken c w.pod ≡ false → sound_pod w.pod ≡ true
     on power h k = absurd (false≢true h)
     on (packet b room) h k = not-false k
     on (put s b) h k = not-false k
-    on (word x) h k = not-false (neither (not (sound_pod w.pod)) _ k)
+    on (word x) h k = not-false k
     on (lone x) h k = not-false k
     on (samples n xs) h k = not-false k
 

@@ -11,10 +11,10 @@ use lib.Seq.{sets, sets-eq, length-sets, take_at, take_all}
 use Rattle.rows.proofs.Bool.{split}
 use Rattle.tables.specs.declared.Header.{Header}
 use Rattle.tables.specs.declared.Transfer.TheVariants.{Idle}
-use Rattle.presets.specs.Tables.{words_of}
+use Rattle.tables.specs.Tables.{words_of}
 use Rattle.tables.specs.Bounds.{sound_transfer}
 use Rattle.tables.specs.Port.{Desk, Tabled, tabled, with_transfer, command_of, order_obeyed, tables_after, load_right, load_judged, word_taken, data_in_of}
-use Rattle.presets.proofs.Lists.{sets_snoc}
+use Rattle.tables.proofs.Lists.{sets_snoc}
 use Rattle.tables.proofs.Limits.{sound_transfer_lem, LoadIn, load_in_lem}
 use Rattle.tables.proofs.Loading.{load_last, judged_right, judged_wrong}
 use Rattle.rules.specs.State.{desk_in, sound_pod}
@@ -25,7 +25,7 @@ use Rattle.rules.specs.Demands.{LoadWhole}
 use Rattle.rules.proofs.Inside.{pod_in}
 use Rattle.rules.proofs.Sound.{sound_next}
 use Rattle.tables.proofs.Stale.{right_same, stored_same}
-use Rattle.rules.proofs.Between.{final_then, word_fed}
+use Rattle.rules.proofs.Between.{final_then, word_fit}
 use Rattle.rules.proofs.Gathering.{laid, Open, along, fit_along, passes}
 
 -- ---- its last word
@@ -37,7 +37,7 @@ first-words ys l i =
 
 -- a load of these words is judged by them alone
 judged-loaded : (h : Header) (ys : List ℕ) (z : World) → 4 ≤ h.n → length ys ≡ h.n → h.n ≤ length z.lent.load
-    → laid (load_judged h (sets z.lent.load 0 ys) (with_transfer Idle z.pod.words) z.lent.tables z.lent.presets) z ≡ loaded h ys z.lent.tables z
+    → laid (load_judged h (sets z.lent.load 0 ys) (with_transfer Idle z.pod.words) z.lent.tables) z ≡ loaded h ys z.lent.tables z
 judged-loaded h ys z least whole room =
     let l = sets z.lent.load 0 ys in
     let w = with_transfer Idle z.pod.words in
@@ -46,13 +46,13 @@ judged-loaded h ys z least whole room =
     let first : take h.n l ≡ take h.n ys = rw whole at (first-words ys z.lent.load (omega arith)) in
     let right = right_same h l ys least first in
     split (load_right h ys)
-    (λ r. ap (λ (y : Tabled). laid y z) (judged_right h l w t z.lent.presets (right ∙ r)) ∙ rw (r, or-false e, stored_same h l ys least first (words_of h.table t)))
-    (λ r. ap (λ (y : Tabled). laid y z) (judged_wrong h l w t z.lent.presets (right ∙ r)) ∙ rw (r, or-true e))
+    (λ r. ap (λ (y : Tabled). laid y z) (judged_right h l w t (right ∙ r)) ∙ rw (r, or-false e, stored_same h l ys least first (words_of h.table t)))
+    (λ r. ap (λ (y : Tabled). laid y z) (judged_wrong h l w t (right ∙ r)) ∙ rw (r, or-true e))
 
 -- an open load is of 4 to 64 words
 pub open_bounds : (h : Header) (z : World) → Open h z → LoadIn h 0
 open_bounds h z o =
-    load_in_lem h 0 (ap sound_transfer (sym o.transfer) ∙ sound_transfer_lem z.pod.words (pod_in z.pod o.fed.fit.sound).words)
+    load_in_lem h 0 (ap sound_transfer (sym o.transfer) ∙ sound_transfer_lem z.pod.words (pod_in z.pod o.fit.sound).words)
 
 -- with its last word it is closed and judged
 last_word : (h : Header) (k : ℕ) (xs : List ℕ) (y : ℕ) (z : World) → Open h z → k ≡ length xs → length xs + 1 ≡ h.n
@@ -65,29 +65,25 @@ last_word h k xs y z o count last =
     let long : length (xs ++ (y ∷ [])) ≡ h.n = length-append xs (y ∷ []) ∙ last in
     let stored : set (sets l 0 xs) k y ≡ sets l 0 (xs ++ (y ∷ [])) =
     ap (λ (i : ℕ). set (sets l 0 xs) i y) (count ∙ sym (zero-add (length xs))) ∙ sym (sets_snoc l 0 xs y) in
-    ap (λ (s : Stepped). s.world) (word_fed v (fit_along h k (sets l 0 xs) z o (length-sets l 0 xs ∙ o.fed.fit.load) (omega arith)) (data_in y))
+    ap (λ (s : Stepped). s.world) (word_fit v (fit_along h k (sets l 0 xs) z o (length-sets l 0 xs ∙ o.fit.load) (omega arith)) (data_in y))
     ∙ ap (λ (s : Tabled). laid s z) (load_last h k y (tabled v.pod.words (desk_in v.lent)) (omega arith))
-    ∙ ap (λ (m : List ℕ). laid (load_judged h m (with_transfer Idle z.pod.words) z.lent.tables z.lent.presets) z) stored
-    ∙ judged-loaded h (xs ++ (y ∷ [])) z b.least long (omega (arith, b.most, o.fed.fit.load))
+    ∙ ap (λ (m : List ℕ). laid (load_judged h m (with_transfer Idle z.pod.words) z.lent.tables) z) stored
+    ∙ judged-loaded h (xs ++ (y ∷ [])) z b.least long (omega (arith, b.most, o.fit.load))
 
 -- ---- from its command word on
 
 module _ (w : World) (x : ℕ) (h : Header) (cs : List Call) (r : Loads w x h cs) where
   is_opened : next w (word (command x)) ≡ opened h w
   unfolding word_of command_of order_obeyed tables_after
-  is_opened = ap (λ (s : Stepped). s.world) (word_fed w r.fed (command x)) ∙ rw (r.awake, r.asked)
+  is_opened = ap (λ (s : Stepped). s.world) (word_fit w r.fit (command x)) ∙ rw (r.awake, r.asked)
 
   is_open_lem : Open h (opened h w)
   is_open_lem =
       record {
-        fed = record {
-          fit = record {
-            tables = r.fed.fit.tables;
-            sound = ap (λ (v : World). sound_pod v.pod) (sym is_opened) ∙ sound_next w (word (command x)) r.fed.fit.sound;
-            load = r.fed.fit.load;
-          };
-          presets = r.fed.presets;
-          marks = r.fed.marks;
+        fit = record {
+          tables = r.fit.tables;
+          sound = ap (λ (v : World). sound_pod v.pod) (sym is_opened) ∙ sound_next w (word (command x)) r.fit.sound;
+          load = r.fit.load;
         };
         transfer = refl;
       }
@@ -98,7 +94,7 @@ load_whole w x h cs y r =
     let o = opened h w in
     let xs = written_in cs in
     let z = final o (others_in cs) in
-    let part = passes h cs 0 w.lent.load o (is_open_lem w x h cs r) r.fed.fit.load r.still (omega (arith, r.last)) in
+    let part = passes h cs 0 w.lent.load o (is_open_lem w x h cs r) r.fit.load r.still (omega (arith, r.last)) in
     let load = ap (λ (d : Desk). d.load) part.desk in
     ap (λ (v : World). final v (cs ++ (word (data_in y) ∷ []))) (is_opened w x h cs r)
     ∙ final_then o cs (word (data_in y) ∷ [])

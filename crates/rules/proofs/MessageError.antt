@@ -1,7 +1,7 @@
 -- Demand 2: which calls set message error, clear it or leave it, and what the status word shows.
 -- Assumes nothing.
 use mathlib.Core.Path.{◌≡◌, refl, ap}
-use mathlib.Core.Bool.{Bool, false, ◌||◌, cond}
+use mathlib.Core.Bool.{false, cond}
 use mathlib.Core.List.{[]}
 use Rattle.rows.specs.Rows.{gave}
 use Rattle.rows.proofs.Bool.{never, not-true}
@@ -18,7 +18,7 @@ use Rattle.rules.specs.Demands.{MessageError, StatusWordShows}
 use Rattle.rules.proofs.Happens.{Happens, by_rows, by_word, happens}
 use Rattle.rules.proofs.Eventful.{Eventful, quiet, anew, initialised, slept, updated, wrote, began, closed, acknowledged, shelved, spoken, touched, eventful}
 use Rattle.rules.proofs.Untouched.{acknowledged_untouched}
-use Rattle.rules.proofs.Heard.{under_way, as_heard}
+use Rattle.rules.proofs.Heard.{as_heard}
 
 -- ---- any call
 
@@ -28,7 +28,7 @@ unfolding error_by done_by initialised_pod fresh_pod start_words close_of
 event_errs w _ _ quiet = refl
 event_errs w _ _ anew = refl
 event_errs w _ _ (initialised f) = refl
-event_errs w _ _ (slept a) = ap (λ (b : Bool). w.pod.words.error || b) (under_way w.pod.words.transfer)
+event_errs w _ _ (slept a) = refl
 event_errs w _ _ (updated f) = refl
 event_errs w _ _ (wrote id v k) = refl
 event_errs w _ _ (began x a k) = refl

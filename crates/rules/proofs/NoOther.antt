@@ -5,14 +5,14 @@ use Rattle.rules.specs.State.{desk_in}
 use Rattle.rules.specs.Obey.{done_by}
 use Rattle.rules.specs.World.{World}
 use Rattle.rules.specs.History.{Event}
-use Rattle.rules.specs.Transfers.{brought_from, tables_by}
+use Rattle.rules.specs.Transfers.{tables_by}
 use Rattle.rules.specs.Demands.{TablesOnly}
 use Rattle.rules.proofs.Happens.{happens}
 use Rattle.rules.proofs.Eventful.{Eventful, quiet, anew, initialised, slept, updated, wrote, began, closed, acknowledged, shelved, spoken, touched, eventful}
 use Rattle.rules.proofs.Heard.{as_heard}
 
 event_tables : (w v : World) (e : Event) → Eventful w e v
-    → v.lent.tables ≡ tables_by e w.pod.initialised w.pod.words w.lent.load w.lent.tables (brought_from w.lent.presets)
+    → v.lent.tables ≡ tables_by e w.pod.initialised w.pod.words (desk_in w.lent)
 unfolding tables_by done_by
 event_tables w _ _ quiet = refl
 event_tables w _ _ anew = refl

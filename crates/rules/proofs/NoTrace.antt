@@ -1,8 +1,8 @@
 -- Demand 3: from an accepted Initialise on nothing shows what was before it.
 -- Assumes nothing.
 use Prim.Native.Nat.{ℕ, ◌*◌}
-use mathlib.Core.Path.{◌≡◌, refl, sym, ap, ◌∙◌}
-use mathlib.Core.Bool.{Bool, true, false, ◌&&◌}
+use mathlib.Core.Path.{◌≡◌, refl, sym, ◌∙◌}
+use mathlib.Core.Bool.{false, ◌&&◌}
 use mathlib.Core.List.{List, [], ◌∷◌}
 use lib.Dec.{eqb}
 use lib.ListN.{length}
@@ -16,29 +16,20 @@ use Rattle.packets.specs.declared.Fields.{Fields}
 use Rattle.packets.specs.declared.Command.TheVariants.{Initialise}
 use Rattle.packets.specs.Commands.{command_row}
 use Rattle.packets.specs.Answers.{answer_of}
-use Rattle.presets.specs.Tables.{starts, tables_sized}
-use Rattle.presets.specs.Presets.{Presets}
-use Rattle.presets.proofs.Lends.{Lends}
+use Rattle.tables.specs.Tables.{starts, tables_sized}
 use Rattle.tables.specs.Port.{start_words}
-use Rattle.presets.proofs.Lengths.{starts_sized}
-use Rattle.rules.specs.declared.Pod.{Pod}
+use Rattle.tables.proofs.Lengths.{starts_sized}
 use Rattle.rules.specs.State.{fresh_pod, with_tables}
 use Rattle.rules.specs.Obey.{initialised_pod, checks_of, done_by}
 use Rattle.rules.specs.Refusals.{all_row, state_row}
 use Rattle.rules.specs.Calls.{roomed, packet_rows, meant_body, reply_bytes, spoken_bytes, answered}
-use Rattle.rules.specs.World.{World, world, Call, power, packet, answering, Stepped, step, rows_of, next, run, powered}
-use Rattle.rules.specs.History.{events}
-use Rattle.rules.specs.Port.{ported}
-use Rattle.rules.specs.Fetched.{fetched_none}
-use Rattle.rules.specs.Pairs.{Accepts, PresetsHide, equal, unfetched, past_of}
+use Rattle.rules.specs.World.{World, world, power, packet, answering, Stepped, step, rows_of, powered}
+use Rattle.rules.specs.Pairs.{Accepts, past_of}
 use Rattle.rules.specs.Demands.{NoTrace, blank, AsFromPower, NoTracePast}
 use Rattle.rules.proofs.Inside.{in_pod, fresh_in}
 use Rattle.rules.proofs.Happens.{Happens, by_rows, by_power, happens}
 use Rattle.rules.proofs.Accepted.{accepted, obeys}
 use Rattle.rules.proofs.WordsAlike.{none_came}
-use Rattle.rules.proofs.May.{Mays, all_may}
-use Rattle.rules.proofs.Presets.{kept_lends, fit_lends}
-use Rattle.rules.proofs.Unfetched.{calm, none_mays}
 use Rattle.rules.proofs.Twins.{emptied, Same, twin, same-run}
 
 -- what an accepted Initialise leaves: a function of its fields, but for what lies in the stores and the load
@@ -72,20 +63,11 @@ begins f b room w a =
       load = a.load;
     }
 
--- none is fetched since: so each call since is none that fetches
-fetched-none : (f : Fields) (b room : List ℕ) (v : World) → Begun f b room v → (cs : List Call) → fetched_none (events (next v (packet b room)) cs) ≡ true
-    → Mays false (next v (packet b room)) cs
-unfolding initialised_pod fresh_pod
-fetched-none f b room v x cs e =
-    let so = ap (λ (s : Stepped). s.world.pod) x.is in
-    none_mays cs (next v (packet b room)) (ported true start_words [])
-    (record { awake = ap (λ (p : Pod). p.initialised) so; words = ap (λ (p : Pod). calm p.words) so }) e
-
 -- the same Initialise, accepted in two worlds, tells the same and makes them twins
-begun_twins : (free : Bool) (f : Fields) (b room : List ℕ) (v w : World) → Begun f b room v → Begun f b room w
-    → Lends free v.lent.presets w.lent.presets → Same free (step v (packet b room)) (step w (packet b room))
+begun_twins : (f : Fields) (b room : List ℕ) (v w : World) → Begun f b room v → Begun f b room w
+    → Same (step v (packet b room)) (step w (packet b room))
 unfolding initialised_pod fresh_pod start_words
-begun_twins free f b room v w x y lends =
+begun_twins f b room v w x y =
     rw (x.is, y.is)
     (record {
       points = refl;
@@ -94,36 +76,29 @@ begun_twins free f b room v w x y lends =
             priority = emptied Priority (x.priority ∙ sym y.priority);
             ordinary = emptied Ordinary (x.ordinary ∙ sym y.ordinary);
             load = none_came 0 refl (x.load ∙ sym y.load);
-            presets = lends;
           });
     })
 
 -- "From that Initialise's answer on, their answers and table words are equal"
-begun-run : (f : Fields) (b room : List ℕ) (v w : World) → Begun f b room v → Begun f b room w → (cs : List Call)
-    → PresetsHide v w (events (next v (packet b room)) cs) → run v (packet b room ∷ cs) ≡ run w (packet b room ∷ cs)
-begun-run f b room v w x y cs (equal e) =
-    same-run v w (packet b room) cs (begun_twins true f b room v w x y (kept_lends v.lent.presets w.lent.presets e)) (all_may _ cs)
-begun-run f b room v w x y cs (unfetched p q e) =
-    same-run v w (packet b room) cs (begun_twins false f b room v w x y (fit_lends v w p q)) (fetched-none f b room v x cs e)
-
 pub no_trace : NoTrace
-no_trace f b room v w x y cs hide = begun-run f b room v w (begins f b room v x) (begins f b room w y) cs hide
+no_trace f b room v w kept x y cs =
+    same-run v w (packet b room) cs (begun_twins f b room v w (begins f b room v x) (begins f b room w y))
 
 -- a pod just powered is fresh, with what is lent as it came
-just_by : (p : Presets) {s : Stepped} → Happens (world fresh_pod (blank p)) power s → s.world ≡ world fresh_pod (blank p)
-just_by p (by_rows c n f) = refl
-just_by p (by_power k) = refl
+just_by : {s : Stepped} → Happens (world fresh_pod blank) power s → s.world ≡ world fresh_pod blank
+just_by (by_rows c n f) = refl
+just_by (by_power k) = refl
 
 -- so it accepts what any world accepts
-just_begins : (f : Fields) (b room : List ℕ) (w : World) (p : Presets) → Accepts f b room w → Begun f b room (world fresh_pod (blank p))
+just_begins : (f : Fields) (b room : List ℕ) (w : World) → Accepts f b room w → Begun f b room (world fresh_pod blank)
 unfolding rows_of checks_of store_sized done_by answered spoken_bytes reply_bytes meant_body
-just_begins f b room w p a =
+just_begins f b room w a =
     let x = accepted (Initialise f) b room w a.asks a.accepted in
-    let sized : (all_row (blank p)).holds ≡ false = rw starts_sized in
+    let sized : (all_row blank).holds ≡ false = rw starts_sized in
     let sound : (state_row fresh_pod).holds ≡ false = rw (in_pod fresh_in) in
-    let rows : Clear (packet_rows (roomed room (blank p)) fresh_pod) = clear (clear_head x.rows) (clear sized (clear sound none)) in
+    let rows : Clear (packet_rows (roomed room blank) fresh_pod) = clear (clear_head x.rows) (clear sized (clear sound none)) in
     record {
-      is = obeys (Initialise f) b room (world fresh_pod (blank p)) a.asks rows x.checks;
+      is = obeys (Initialise f) b room (world fresh_pod blank) a.asks rows x.checks;
       priority = refl;
       ordinary = refl;
       load = refl;
@@ -131,10 +106,10 @@ just_begins f b room w p a =
 
 -- "and are those of demand 2"
 pub as_from_power : AsFromPower
-as_from_power f b room w p x cs =
-    rw (just_by p (happens (world fresh_pod (blank p)) power))
-    (begun-run f b room w (world fresh_pod (blank p)) (begins f b room w x) (just_begins f b room w p x) cs)
+as_from_power f b room w kept x cs =
+    rw (just_by (happens (world fresh_pod blank) power))
+    (same-run w (world fresh_pod blank) (packet b room) cs (begun_twins f b room w (world fresh_pod blank) (begins f b room w x) (just_begins f b room w x)))
 
 -- "Take two pods with any two pasts since power-on"
 pub no_trace_past : NoTracePast
-no_trace_past f b room l m ds es x y cs hide = no_trace f b room (past_of (powered l) ds) (past_of (powered m) es) x y cs hide
+no_trace_past f b room l m ds es kept x y cs = no_trace f b room (past_of (powered l) ds) (past_of (powered m) es) kept x y cs

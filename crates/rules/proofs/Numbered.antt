@@ -2,25 +2,19 @@
 -- Assumes nothing.
 use Prim.Native.Nat.{ℕ}
 use mathlib.Core.Path.{◌≡◌, refl}
-use mathlib.Core.Bool.{Bool, true, false, not, ◌&&◌, ◌||◌, or-false}
+use mathlib.Core.Bool.{Bool, true, false, not, ◌&&◌, ◌||◌}
 use mathlib.Core.List.{List, [], ◌∷◌}
-use lib.Dec.{leb, eqb}
-use lib.ListN.{length}
+use lib.Dec.{leb}
 use Rattle.rows.specs.Rows.{Row, row, First, here, after, Clear, none, past}
-use Rattle.rows.proofs.Bool.{never}
-use Rattle.presets.specs.Tables.{tables_sized}
-use Rattle.presets.specs.Presets.{presets_sized, marks_right}
-use Rattle.tables.specs.Port.{Desk}
+use Rattle.rows.proofs.Bool.{split, never}
 use Rattle.pipe.specs.Output.{busy_of}
 use Rattle.frames.specs.Samples.{bounded_of}
-use Rattle.rules.specs.declared.Pod.{Pod}
-use Rattle.rules.specs.State.{desk_in, sound_pod}
 use Rattle.rules.specs.Families.{byte, timeout, packet_out, taken, deadline, pipe}
 use Rattle.rules.specs.Traits.{traits}
 use Rattle.rules.specs.World.{World, Call, power, packet, put, word, lone, samples, rows_of}
 use Rattle.rules.specs.Numbered.{rows_in_order}
 use Rattle.rules.specs.Demands.{RowsExactly}
-use Rattle.rules.proofs.WordRows.{rows_by, rowed}
+use Rattle.rules.proofs.WordRows.{rowed}
 use Rattle.rules.proofs.Answered.{always_answered}
 
 -- ---- rows, with others among them that do not hold
@@ -47,18 +41,6 @@ not_both : (a b : Bool) → not (a && b) ≡ (not a || not b)
 not_both true b = refl
 not_both false b = refl
 
--- the rows of a table word, by what it is lent
-word_table : (lent presets : Bool) (d : Desk) (p : Pod) {ts : List Row} → Among [] ts
-    → Among (rows_by lent presets d p)
-    (row 2 (lent && (not (tables_sized d.tables) || (presets && not (eqb (length d.presets.words) 1024 && eqb (length d.presets.marks) 12))))
-    ∷ row 3 (not (sound_pod p) || (presets && not (marks_right d.presets.marks))) ∷ ts)
-unfolding presets_sized
-word_table true true d p a =
-    rw (not_both (tables_sized d.tables) (eqb (length d.presets.words) 1024 && eqb (length d.presets.marks) 12), not_both (sound_pod p) (marks_right d.presets.marks)) (same (same a))
-word_table true false d p a = rw (or-false (not (tables_sized d.tables)), or-false (not (sound_pod p))) (same (same a))
-word_table false true d p a = rw (not_both (sound_pod p) (marks_right d.presets.marks)) (idle refl (same a))
-word_table false false d p a = rw (or-false (not (sound_pod p))) (idle refl (same a))
-
 -- a call's rows stand in the table in their order, and no other row of it holds
 table : (w : World) (c : Call) → Among (rows_of w c) (rows_in_order w c)
 unfolding rows_of rows_in_order busy_of
@@ -66,8 +48,10 @@ table w power = idle refl (same (idle refl (idle refl (idle refl (idle refl (idl
 table w (packet b room) = same (same (same (idle refl (idle refl (idle refl (idle refl (idle refl (idle refl done))))))))
 table w (put s b) = idle refl (same (same (same (idle refl (idle refl (same (same (idle refl done))))))))
 table w (word c) =
-    rw ((rowed c).rows (desk_in w.lent) w.pod)
-    (idle refl (word_table (traits c).lent (traits c).presets (desk_in w.lent) w.pod (idle refl (idle refl (idle refl (idle refl (idle refl (idle refl done))))))))
+    rw ((rowed c).rows w.lent.tables)
+    (split (traits c).lent
+    (λ e. rw e (idle refl (same (same (idle refl (idle refl (idle refl (idle refl (idle refl (idle refl done))))))))))
+    (λ e. rw e (idle refl (idle refl (same (idle refl (idle refl (idle refl (idle refl (idle refl (idle refl done)))))))))))
 table w (lone deadline) = idle refl (idle refl (same (idle refl (idle refl (idle refl (idle refl (idle refl (idle refl done))))))))
 table w (lone (pipe (byte b))) = idle refl (idle refl (same (idle refl (idle refl (idle refl (same (idle refl (idle refl done))))))))
 table w (lone (pipe timeout)) = idle refl (idle refl (same (idle refl (idle refl (idle refl (same (idle refl (idle refl done))))))))

@@ -5,18 +5,20 @@ use mathlib.Core.Bool.{false}
 use Rattle.tables.specs.Port.{start_words}
 use Rattle.rules.specs.State.{fresh_pod, desk_in}
 use Rattle.rules.specs.Obey.{initialised_pod, done_by}
-use Rattle.rules.specs.World.{World, world, power, Stepped, next, powered}
+use Rattle.rules.specs.World.{World, world, power, Stepped, powered}
 use Rattle.rules.specs.History.{Event}
-use Rattle.rules.specs.Port.{Ported, ported, port_in, ported_by}
+use Rattle.rules.specs.Port.{Ported, ported, ported_by}
 use Rattle.rules.specs.Demands.{PortIsHistory}
-use Rattle.rules.specs.Preset.{PortedOnly}
 use Rattle.rules.proofs.Happens.{Happens, by_rows, by_power, happens}
-use Rattle.rules.proofs.Eventful.{Eventful, quiet, anew, initialised, slept, updated, wrote, began, closed, acknowledged, shelved, spoken, touched, eventful}
+use Rattle.rules.proofs.Eventful.{Eventful, quiet, anew, initialised, slept, updated, wrote, began, closed, acknowledged, shelved, spoken, touched}
 use Rattle.rules.proofs.Histories.{history, powered_fresh}
 use Rattle.rules.proofs.Untouched.{acknowledged_untouched}
 use Rattle.rules.proofs.Heard.{as_heard}
 
-pub event_ported : (w v : World) (e : Event) → Eventful w e v → port_in v ≡ ported_by e (port_in w)
+abbrev port_in : World → Ported
+port_in w = ported w.pod.initialised w.pod.words w.lent.load
+
+event_ported : (w v : World) (e : Event) → Eventful w e v → port_in v ≡ ported_by e (port_in w)
 unfolding ported_by done_by fresh_pod initialised_pod
 event_ported w _ _ quiet = refl
 event_ported w _ _ anew = refl
@@ -39,9 +41,6 @@ event_ported w _ _ (touched c k) = refl
 load-left : {w : World} {s : Stepped} → Happens w power s → s.world.lent.load ≡ w.lent.load
 load-left (by_rows c n f) = refl
 load-left (by_power k) = refl
-
-pub ported-only : PortedOnly
-ported-only w c = event_ported w (next w c) _ (eventful (happens w c))
 
 pub port_is_history : PortIsHistory
 unfolding fresh_pod

@@ -17,26 +17,21 @@ use Rattle.tables.specs.declared.Words.{Words}
 use Rattle.tables.specs.declared.Answered.{Answered}
 use Rattle.tables.specs.declared.Given.TheVariants.{Nowhere}
 use Rattle.tables.specs.declared.Transfer.TheVariants.{Idle, Read}
-use Rattle.presets.specs.Tables.{Three, tables_sized, words_of}
-use Rattle.tables.specs.Places.{with_read_place}
+use Rattle.tables.specs.Tables.{Three, tables_sized, words_of, with_read_place}
 use Rattle.tables.specs.Port.{Desk, with_transfer, with_places, with_given, data_count, close_of, read_opened, read_opened_at, order_obeyed, tables_after, command_of, read_word, read_next, word_given}
 use Rattle.tables.proofs.Obeying.{given_by}
 use Rattle.tables.proofs.Reading.{read_first, read-second, read-third, read_data}
 use Rattle.rules.specs.State.{sound_pod, desk_in, with_words}
 use Rattle.rules.specs.Refusals.{done, reads}
 use Rattle.rules.specs.Families.{WordCall, command, data_out, word_of}
-use Rattle.rules.specs.Traits.{traits}
 use Rattle.rules.specs.World.{World, Call, word, told, Stepped, stepped, step, next, final}
 use Rattle.rules.specs.History.{Event, event_of, events}
 use Rattle.rules.specs.Transfers.{Fit, cuts, cuts_read, left_open, call_reads, reads_in, word_shown, Reads}
 use Rattle.rules.specs.Demands.{ReadWhole, ReadEnds, ReadMoves}
-use Rattle.rules.proofs.Happens.{Happens, by_rows, by_word, happens, wording}
-use Rattle.rows.proofs.Laws.{never_both}
-use Rattle.rules.proofs.WordRows.{rowed}
+use Rattle.rules.proofs.Happens.{happens, wording}
 use Rattle.rules.proofs.Fares.{WithRead, ending, going, fares}
 use Rattle.rules.proofs.Sound.{sound_next}
-use Rattle.rules.proofs.Gathering.{fit_still}
-use Rattle.rules.proofs.Between.{final_then, fit_clear, word_fit, Other, powers, sends, puts, touches, shows, Which, says, other, which, Ported, apart, ends, ported}
+use Rattle.rules.proofs.Between.{final_then, word_fit, Other, powers, sends, puts, touches, shows, Which, says, other, which, Ported, apart, ends, ported}
 
 -- no other call than a table word reads one
 reads_none : {c : Call} → Other c → call_reads c ≡ 0
@@ -66,7 +61,7 @@ module _ (h : Header) (at : ℕ) (places : Places) where
       → v.pod.words.places ≡ places → v.pod.words.given ≡ Nowhere → Along v k
   stays v w k f s d t p g =
       record {
-        fit = fit_still w v f s d;
+        fit = record { tables = ap (λ (x : Desk). tables_sized x.tables) d ∙ f.tables; sound = s; load = ap (λ (x : Desk). length x.load) d ∙ f.load };
         transfer = t;
         moved = p;
         given = g;
@@ -90,19 +85,12 @@ module _ (h : Header) (at : ℕ) (places : Places) where
       (ap (λ (x : Words). x.given) q.words ∙ o.given)
   other-along (ends e v f t l) k i s o = never (f cuts_read) i
 
-  -- a table word, refused or not: of those that may be refused none reads a word
-  said_along : (w : World) (k : ℕ) (x : WordCall) → k + call_reads (word x) < h.n → Along w k → {y : Stepped} → Happens w (word x) y
-      → cuts cuts_read (event_of (word x) y.told) ≡ false → sound_pod y.world.pod ≡ true → Along y.world (k + call_reads (word x))
-  unfolding event_of cuts
-  said_along w k x l o (by_rows c n f) i j =
-      let none : (traits x).reads ≡ 0 = split (traits x).presets (λ a. (rowed x).silent a) (λ a. never_both f (fit_clear o.fit x a)) in
-      rw (none, add-zero k) o
-  said_along w k x l o (by_word c q) i j = word_along x w k i l j o
-
   call_along : (w : World) (k : ℕ) {c : Call} → Which c → cuts cuts_read (event_of c (step w c).told) ≡ false → k + call_reads c < h.n
       → sound_pod (next w c).pod ≡ true → Along w k → Along (next w c) (k + call_reads c)
   unfolding event_of cuts
-  call_along w k (says x) e l s o = said_along w k x l o (happens w (word x)) e s
+  call_along w k (says x) e l s o =
+      subst (λ (y : Stepped). cuts cuts_read (event_of (word x) y.told) ≡ false → sound_pod y.world.pod ≡ true → Along y.world (k + call_reads (word x)))
+      (sym (word_fit w o.fit x)) (λ i j. word_along x w k i l j o) e s
   call_along w k {c} (other q) e l s o =
       rw (reads_none q, add-zero k) (other-along (ported q (happens w c)) k e s o)
 
@@ -153,7 +141,7 @@ module _ (w : World) (x : ℕ) (h : Header) (at : ℕ) (cs : List Call) (r : Rea
   begins : Along h at behind (next w (word (command x))) 0
   unfolding close_of
   begins =
-      let so = word_fit w r.fit (command x) refl ∙ is_opened in
+      let so = word_fit w r.fit (command x) ∙ is_opened in
       let port = ap (λ (y : Stepped). y.world.pod.words) so in
       stays h at behind (next w (word (command x))) w 0 r.fit (sound_next w (word (command x)) r.fit.sound) (ap (λ (y : Stepped). desk_in y.world.lent) so)
       (ap (λ (v : Words). v.transfer) port) (ap (λ (v : Words). v.places) port) (ap (λ (v : Words). v.given) port)
@@ -170,7 +158,7 @@ module _ (w : World) (x : ℕ) (h : Header) (at : ℕ) (cs : List Call) (r : Rea
   -- one word more
   one_read : step now (word data_out)
       ≡ stepped (gave (reads (read_word h at (words_of h.table now.lent.tables) (reads_in cs)))) [] (with_words (with_transfer (read_next h (reads_in cs) at) now.pod.words) now.pod) now.lent
-  one_read = word_fit now open_still.fit data_out refl ∙ reading h at behind now (reads_in cs) open_still
+  one_read = word_fit now open_still.fit data_out ∙ reading h at behind now (reads_in cs) open_still
 
   one_more : (final w (word (command x) ∷ (cs ++ (word data_out ∷ [])))).pod.words.transfer ≡ read_next h (reads_in cs) at
   unfolding final

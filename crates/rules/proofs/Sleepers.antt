@@ -20,24 +20,21 @@ use Rattle.packets.specs.declared.Parsed.TheVariants.{Nothing, Error, Acknowledg
 use Rattle.packets.specs.Commands.{command_row}
 use Rattle.packets.specs.Reading.{packet_read}
 use Rattle.params.specs.declared.Params.{Params}
-use Rattle.presets.specs.Tables.{starts, tables_sized}
-use Rattle.presets.specs.Presets.{presets_sized, marks_right}
-use Rattle.presets.proofs.Lends.{Lends}
+use Rattle.tables.specs.Tables.{starts, tables_sized}
 use Rattle.tables.specs.Port.{Desk, start_words}
 use Rattle.rules.specs.declared.Exchange.TheVariants.{Closed}
 use Rattle.rules.specs.declared.Pod.{Pod}
 use Rattle.rules.specs.State.{with_params, with_ring, with_words, fresh_pod, sound_pod, Lent, store_in, with_tables, desk_in}
 use Rattle.rules.specs.Obey.{shut, initialised_pod, checks_of, done_by, obey_of, matches, settled, acknowledged_of}
 use Rattle.rules.specs.Refusals.{store_row, state_row, block_row, asleep_row}
-use Rattle.rules.specs.Families.{WordCall, word_of, lone_of}
-use Rattle.rules.specs.Traits.{traits}
-use Rattle.rules.specs.Calls.{power_call, replied, packet_heard, meant_body, reply_bytes, spoken_bytes, answered, packet_call, shelved, put_call, word_rows, word_call, reach_of, reached, lone_call, samples_call}
+use Rattle.rules.specs.Families.{WordCall, word_of, word_lent, lone_of}
+use Rattle.rules.specs.Calls.{power_call, replied, packet_heard, meant_body, reply_bytes, spoken_bytes, answered, packet_call, shelved, put_call, word_call, reach_of, reached, lone_call, samples_call}
 use Rattle.rules.specs.World.{World, world, Call, power, packet, put, word, lone, samples, Told, Stepped, over_tables, over_room, over_store, over_desk, over_sent, over_frames, step, next, Point, tells}
 use Rattle.rules.specs.Pairs.{SizesAlike, sizes_in}
 use Rattle.rules.proofs.Stores.{store_same}
 use Rattle.rules.proofs.Lone.{rows_alike}
 use Rattle.rules.proofs.Happens.{wording}
-use Rattle.rules.proofs.WordRows.{rows_by, rowed}
+use Rattle.rules.proofs.WordRows.{rowed}
 use Rattle.rules.proofs.Fares.{fares}
 use Rattle.rules.proofs.Inside.{pod_in, off_closed, off_still}
 use Rattle.rules.proofs.Sound.{sound_next}
@@ -48,19 +45,19 @@ use Rattle.rules.proofs.Twins.{emptied, Held, Alike, Twin, twin, Same, twin_step
 abbrev pub disguise : Params → Ring → Ring → Pod → Pod
 disguise q a o p = with_params q (with_ring Priority a (with_ring Ordinary o p))
 
--- a world asleep, and the same but for the parameters, the blocks and all words: the sizes are equal, and the presets bring the same
+-- a world asleep, and the same but for the parameters, the blocks and all words: the sizes are equal
 pub data Sleepers : World → World → Type 0 where
-  sleepers : (p : Pod) (q : Params) (a o : Ring) (l m : Lent) → sizes_in l ≡ sizes_in m → Lends true l.presets m.presets → p.initialised ≡ false
+  sleepers : (p : Pod) (q : Params) (a o : Ring) (l m : Lent) → sizes_in l ≡ sizes_in m → p.initialised ≡ false
       → Sleepers (world p l) (world (disguise q a o p) m)
 
 -- two calls tell alike and leave sleepers, or twins
 pub data TellAlike (s r : Stepped) : Type 0 where
   still : s.told ≡ r.told → Sleepers s.world r.world → TellAlike s r
-  woken : Same true s r → TellAlike s r
+  woken : Same s r → TellAlike s r
 
 -- ---- of one size
 
-module _ (l m : Lent) (sizes : sizes_in l ≡ sizes_in m) (lends : Lends true l.presets m.presets) where
+module _ (l m : Lent) (sizes : sizes_in l ≡ sizes_in m) where
   store_sizes : (s : Store) → length (store_in s l) ≡ length (store_in s m)
   store_sizes Priority = ap (λ (s : SizesAlike). s.priority) sizes
   store_sizes Ordinary = ap (λ (s : SizesAlike). s.ordinary) sizes
@@ -70,23 +67,13 @@ module _ (l m : Lent) (sizes : sizes_in l ≡ sizes_in m) (lends : Lends true l.
   tables_same = rw (ap (λ (s : SizesAlike). s.five) sizes, ap (λ (s : SizesAlike). s.six) sizes, ap (λ (s : SizesAlike). s.seven) sizes)
 
   -- emptied, they may hold anything
-  cleared : Held true empty_ring empty_ring 0 l m
+  cleared : Held empty_ring empty_ring 0 l m
   cleared =
       record {
         priority = emptied Priority (store_sizes Priority);
         ordinary = emptied Ordinary (store_sizes Ordinary);
         load = none_came 0 refl (ap (λ (s : SizesAlike). s.load) sizes);
-        presets = lends;
       }
-
--- ---- the rows of a table word
-
-rows_two : (lent presets : Bool) (d e : Desk) (p r : Pod) → tables_sized d.tables ≡ tables_sized e.tables → presets_sized d.presets ≡ presets_sized e.presets
-    → marks_right d.presets.marks ≡ marks_right e.presets.marks → sound_pod p ≡ sound_pod r → rows_by lent presets d p ≡ rows_by lent presets e r
-rows_two true true d e p r a b c s = rw (a, b, c, s)
-rows_two true false d e p r a b c s = rw (a, s)
-rows_two false true d e p r a b c s = rw (c, s)
-rows_two false false d e p r a b c s = rw s
 
 -- ---- what does nothing asleep
 
@@ -101,7 +88,7 @@ put_asleep : (s : Store) (b x : List ℕ) (p : Pod) → p.initialised ≡ false
 unfolding put_call ran
 put_asleep s b x p off = rw off
 
-module _ (p : Pod) (q : Params) (a o : Ring) (l m : Lent) (sizes : sizes_in l ≡ sizes_in m) (lends : Lends true l.presets m.presets) (off : p.initialised ≡ false)
+module _ (p : Pod) (q : Params) (a o : Ring) (l m : Lent) (sizes : sizes_in l ≡ sizes_in m) (off : p.initialised ≡ false)
     (first : sound_pod p ≡ true) (second : sound_pod (disguise q a o p) ≡ true) where
   abbrev r : Pod
   r = disguise q a o p
@@ -115,16 +102,16 @@ module _ (p : Pod) (q : Params) (a o : Ring) (l m : Lent) (sizes : sizes_in l �
   -- another of the two pods' parts changed alike
   stays : {t : Told} (x : Pod) → x.initialised ≡ false
       → TellAlike (record { told = t; world = world x l }) (record { told = t; world = world (disguise q a o x) m })
-  stays x e = still refl (sleepers x q a o l m sizes lends e)
+  stays x e = still refl (sleepers x q a o l m sizes e)
 
   same : {t : Told} → TellAlike (record { told = t; world = w₁ }) (record { told = t; world = w₂ })
   same = stays p off
 
   -- both begin anew, whatever lies in what is lent
-  anew : {t : Told} (x : Pod) → Alike true x l m
+  anew : {t : Told} (x : Pod) → Alike x l m
       → TellAlike (record { told = t; world = world x (with_tables starts l) }) (record { told = t; world = world x (with_tables starts m) })
   anew x h =
-      woken (record { points = refl; twins = twin x (with_tables starts l) m (record { priority = h.priority; ordinary = h.ordinary; load = h.load; presets = h.presets }) })
+      woken (record { points = refl; twins = twin x (with_tables starts l) m (record { priority = h.priority; ordinary = h.ordinary; load = h.load }) })
 
   -- ---- a packet that is not refused
   module _ (room : List ℕ) where
@@ -143,7 +130,7 @@ module _ (p : Pod) (q : Params) (a o : Ring) (l m : Lent) (sizes : sizes_in l �
     obey_alike (asked.Initialise f) =
         let code = (command_row (asked.Initialise f)).code in
         ran-two (λ o q. TellAlike (over_room (given (answered (replied code o) room)) w₁) (over_room (given (answered (replied code q) room)) w₂)) refl
-        (λ n. stays (shut p) off) (λ k. anew _ (cleared l m sizes lends))
+        (λ n. stays (shut p) off) (λ k. anew _ (cleared l m sizes))
     obey_alike asked.Status = fail_alike asked.Status (here (rw off)) (here (rw off))
     obey_alike (asked.Update f) = fail_alike (asked.Update f) (here (rw off)) (here (rw off))
     obey_alike (asked.Write id v) = fail_alike (asked.Write id v) (here (rw off)) (here (rw off))
@@ -168,7 +155,7 @@ module _ (p : Pod) (q : Params) (a o : Ring) (l m : Lent) (sizes : sizes_in l �
   unfolding store_sized
   put_alike s b =
       rw (put_asleep s b (store_in s l) p off, put_asleep s b (store_in s m) r off)
-      (ran-two (λ o q. TellAlike (over_store s o w₁) (over_store s q w₂)) (rw (store_sizes l m sizes lends s, first, second))
+      (ran-two (λ o q. TellAlike (over_store s o w₁) (over_store s q w₂)) (rw (store_sizes l m sizes s, first, second))
       (λ n. rw (store_same s l, store_same s m) same)
       (λ k. never (not-false (clear_head (clear_rest (clear_rest (clear_rest k))))) off))
 
@@ -178,20 +165,17 @@ module _ (p : Pod) (q : Params) (a o : Ring) (l m : Lent) (sizes : sizes_in l �
       let so : (d : Desk) → word_of c p.initialised p.words d ≡ out y.said y.words d = λ d. ap (λ (b : Bool). word_of c b p.words d) off ∙ y.is d in
       rw (so (desk_in l), so (desk_in m)) (stays (with_words y.words p) off)
 
-  word_rows_lem : (c : WordCall) → word_rows c (desk_in l) p ≡ word_rows c (desk_in m) r
-  word_rows_lem c =
-      (rowed c).rows (desk_in l) p
-      ∙ rows_two (traits c).lent (traits c).presets (desk_in l) (desk_in m) p r (tables_same l m sizes lends) lends.sized lends.right (first ∙ sym second)
-      ∙ sym ((rowed c).rows (desk_in m) r)
+  word_rows_lem : (c : WordCall) → word_lent c l.tables ≡ word_lent c m.tables
+  word_rows_lem c = rw ((rowed c).rows l.tables, (rowed c).rows m.tables, tables_same l m sizes)
 
   steps_alike : (c : Call) → TellAlike (step w₁ c) (step w₂ c)
   unfolding step power_call packet_call word_call lone_call samples_call store_sized fresh_pod start_words
-  steps_alike power = ran-two (λ o q. TellAlike (over_tables o w₁) (over_tables q w₂)) (rw (tables_same l m sizes lends)) (λ n. same) (λ k. anew fresh_pod (cleared l m sizes lends))
+  steps_alike power = ran-two (λ o q. TellAlike (over_tables o w₁) (over_tables q w₂)) (rw (tables_same l m sizes)) (λ n. same) (λ k. anew fresh_pod (cleared l m sizes))
   steps_alike (packet b room) =
-      ran-two (λ o q. TellAlike (over_room o w₁) (over_room q w₂)) (rw (store_sizes l m sizes lends Priority, store_sizes l m sizes lends Ordinary, tables_same l m sizes lends, first, second)) (λ n. same)
+      ran-two (λ o q. TellAlike (over_room o w₁) (over_room q w₂)) (rw (store_sizes l m sizes Priority, store_sizes l m sizes Ordinary, tables_same l m sizes, first, second)) (λ n. same)
       (λ k. heard_alike room (packet_read b))
   steps_alike (put s b) = put_alike s b
-  steps_alike (word c) = ran-two (λ o q. TellAlike (over_desk o w₁) (over_desk q w₂)) (word_rows_lem c) (λ n. same) (λ k. word_alike c)
+  steps_alike (word c) = ran-two (λ o q. TellAlike (over_desk o w₁) (over_desk q w₂)) (rw (word_rows_lem c, first, second)) (λ n. same) (λ k. word_alike c)
   steps_alike (lone c) =
       ran-two (λ o q. TellAlike (over_sent o w₁) (over_sent q w₂)) (rows_alike c p r (first ∙ sym second) refl refl) (λ n. same)
       (λ k. stays (reached (lone_of c (reach_of p)) p).pod off)
@@ -200,15 +184,15 @@ module _ (p : Pod) (q : Params) (a o : Ring) (l m : Lent) (sizes : sizes_in l �
 -- ---- for ever
 
 sleep_step : {v w : World} → Sleepers v w → sound_pod v.pod ≡ true → sound_pod w.pod ≡ true → (c : Call) → TellAlike (step v c) (step w c)
-sleep_step (sleepers p q a o l m sizes lends off) h k c = steps_alike p q a o l m sizes lends off h k c
+sleep_step (sleepers p q a o l m sizes off) h k c = steps_alike p q a o l m sizes off h k c
 
-told_same : {s r : Stepped} → Same true s r → s.told ≡ r.told
+told_same : {s r : Stepped} → Same s r → s.told ≡ r.told
 told_same x = ap (λ (e : Point). e.told) x.points
 
-twin_tells : (cs : List Call) {v w : World} → Twin true v w → tells v cs ≡ tells w cs
+twin_tells : (cs : List Call) {v w : World} → Twin v w → tells v cs ≡ tells w cs
 unfolding tells
 twin_tells [] z = refl
-twin_tells (c ∷ cs) z = let x = twin_step z c (λ k. refl) in ap₂ (λ (t : Told) (l : List Told). t ∷ l) (told_same x) (twin_tells cs x.twins)
+twin_tells (c ∷ cs) z = let x = twin_step z c in ap₂ (λ (t : Told) (l : List Told). t ∷ l) (told_same x) (twin_tells cs x.twins)
 
 pub sleep_tells : (cs : List Call) (v w : World) → Sleepers v w → sound_pod v.pod ≡ true → sound_pod w.pod ≡ true → tells v cs ≡ tells w cs
 unfolding tells

@@ -7,8 +7,8 @@ use Rattle.rows.specs.Rows.{gave}
 use Rattle.rows.proofs.Bool.{never, not-true}
 use Rattle.tables.specs.declared.Words.{Words}
 use Rattle.tables.specs.declared.Transfer.{Transfer}
-use Rattle.tables.specs.declared.Transfer.TheVariants.{Idle, Address, Load, Read, Preset}
-use Rattle.presets.specs.Tables.{Three}
+use Rattle.tables.specs.declared.Transfer.TheVariants.{Idle, Address, Load, Read}
+use Rattle.tables.specs.Tables.{Three}
 use Rattle.tables.specs.Port.{word_given, data_out_of}
 use Rattle.rules.specs.Refusals.{reads}
 use Rattle.rules.specs.Families.{data_out, word_of}
@@ -29,7 +29,6 @@ unfolding word_given
 gives_as Idle w s = refl
 gives_as Address w s = refl
 gives_as (Load h k) w s = refl
-gives_as (Preset y t) w s = refl
 gives_as (Read h k at) w s = word_shown_lem h at s k
 
 read_told_lem : {w : World} {s : Stepped} → Happens w (word data_out) s → is_refused s.told.said ≡ false

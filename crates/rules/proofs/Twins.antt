@@ -1,16 +1,15 @@
 -- Two worlds with one pod and the same table words, whose stores and load may hold other bytes but have the same blocks waiting and
--- the same words of an open load, and whose presets bring the same or are not fetched: every call tells the same in both, and leaves two
--- such worlds.
+-- the same words of an open load: every call tells the same in both, and leaves two such worlds.
 -- Assumes nothing.
 use Prim.Native.Nat.{ℕ, ◌-◌}
 use mathlib.Core.Path.{◌≡◌, refl, sym, ap, ap₂, ◌∙◌}
-use mathlib.Core.Bool.{Bool, true, false, not, ◌||◌}
-use mathlib.Core.List.{List, [], ◌∷◌}
+use mathlib.Core.Bool.{Bool, true, ◌||◌}
+use mathlib.Core.List.{List, [], ◌∷◌, ◌++◌}
 use lib.Dec.{eqb}
 use lib.ListN.{length}
-use Rattle.rows.specs.Rows.{Clear, none, past, Said, refused, gave, Out, out, given}
-use Rattle.rows.proofs.Bool.{by-test, not-false, and_left}
-use Rattle.rows.proofs.Laws.{ran-two}
+use Rattle.rows.specs.Rows.{Row, Clear, Said, refused, gave, Out, out, given}
+use Rattle.rows.proofs.Bool.{by-test, not-false}
+use Rattle.rows.proofs.Laws.{clear_head, clear_rest, ran-two}
 use Rattle.blocks.specs.declared.Store.{Store}
 use Rattle.blocks.specs.declared.Store.TheVariants.{Priority, Ordinary}
 use Rattle.blocks.specs.declared.Ring.{Ring}
@@ -24,23 +23,17 @@ use Rattle.packets.specs.Commands.{command_row}
 use Rattle.packets.specs.Reading.{packet_read}
 use Rattle.packets.specs.Answers.{answer_of}
 use Rattle.tables.specs.declared.Words.{Words}
-use Rattle.tables.specs.declared.Transfer.{Transfer}
-use Rattle.presets.specs.Tables.{Three, starts}
-use Rattle.presets.specs.Presets.{Presets, marks_right}
-use Rattle.presets.proofs.Lends.{Lends}
+use Rattle.tables.specs.Tables.{Three, starts}
 use Rattle.tables.specs.Port.{Desk, desk, start_words, close_of}
 use Rattle.rules.specs.declared.Exchange.{Exchange}
 use Rattle.rules.specs.declared.Exchange.TheVariants.{Closed, Status, Read, Receive}
 use Rattle.rules.specs.declared.Pod.{Pod}
-use Rattle.rules.specs.State.{with_fields, with_words, with_ring, ring_of, remaining_of, with_remaining, fresh_pod, sound_pod, Lent, store_in, with_store, with_tables, desk_in, with_desk}
+use Rattle.rules.specs.State.{with_fields, with_words, with_ring, ring_of, remaining_of, with_remaining, fresh_pod, sound_pod, Lent, store_in, with_store, with_tables, with_desk}
 use Rattle.rules.specs.Obey.{Meant, success, report, value, block, shut, initialised_pod, checks_of, done_by, obey_of, matches, drop_from, settled, acknowledged_of}
-use Rattle.rules.specs.Refusals.{Giving, all_row}
-use Rattle.rules.specs.Families.{WordCall}
-use Rattle.rules.specs.Traits.{traits}
+use Rattle.rules.specs.Refusals.{Giving, all_row, state_row}
+use Rattle.rules.specs.Families.{WordCall, word_lent}
 use Rattle.rules.specs.Calls.{power_call, Spoken, silent, says, replied, packet_heard, meant_body, reply_bytes, spoken_bytes, answered, packet_call, put_call, word_rows, worded, word_call, lone_call, samples_call}
-use Rattle.rules.specs.World.{World, world, Call, power, packet, put, word, lone, samples, Told, Stepped, over_tables, over_room, over_store, over_desk, over_sent, over_frames, step, rows_of, next, Point, point, run}
-use Rattle.rules.specs.Fetched.{fetches}
-use Rattle.rules.proofs.WordRows.{rows_by, rowed}
+use Rattle.rules.specs.World.{World, world, Call, power, packet, put, word, lone, samples, Told, Stepped, over_tables, over_room, over_store, over_desk, over_sent, over_frames, step, rows_of, Point, point, run}
 use Rattle.rules.proofs.Stores.{store_same}
 use Rattle.rules.proofs.Happens.{putting, wording}
 use Rattle.rules.proofs.Inside.{pod_in, ring_in}
@@ -48,7 +41,6 @@ use Rattle.rules.proofs.Fits.{PutFits, put_fits}
 use Rattle.tables.proofs.Stale.{gathered as came_of}
 use Rattle.rules.proofs.WordsAlike.{Gathered, none_came, SameDesk, same-desk}
 use Rattle.rules.proofs.Fares.{fares}
-use Rattle.rules.proofs.May.{May, Mays, more}
 
 -- ---- one store
 
@@ -64,39 +56,37 @@ emptied s {x} {y} h =
 
 -- ---- what is lent
 
--- the same blocks wait in either store, the same k words of a load have come, and the presets are alike
-pub record Held (free : Bool) (r o : Ring) (k : ℕ) (l m : Lent) : Type 0 where
+-- the same blocks wait in either store, and the same k words of a load have come
+pub record Held (r o : Ring) (k : ℕ) (l m : Lent) : Type 0 where
   pub priority : Holds Priority r l.priority m.priority
   pub ordinary : Holds Ordinary o l.ordinary m.ordinary
   pub load : Gathered k l.load m.load
-  pub presets : Lends free l.presets m.presets
 
-abbrev pub Alike : Bool → Pod → Lent → Lent → Type 0
-Alike free p l m = Held free p.priority p.ordinary (came_of p.words.transfer) l m
+abbrev pub Alike : Pod → Lent → Lent → Type 0
+Alike p l m = Held p.priority p.ordinary (came_of p.words.transfer) l m
 
-module _ {free : Bool} (p : Pod) {l m : Lent} (h : Alike free p l m) where
+module _ (p : Pod) {l m : Lent} (h : Alike p l m) where
   -- of either store
   held : (s : Store) → Holds s (ring_of s p) (store_in s l) (store_in s m)
   held Priority = h.priority
   held Ordinary = h.ordinary
 
   -- one ring and its store changed
-  with_held : (s : Store) (r : Ring) (x y : List ℕ) → Holds s r x y → Alike free (with_ring s r p) (with_store s x l) (with_store s y m)
-  with_held Priority r x y k = record { priority = k; ordinary = h.ordinary; load = h.load; presets = h.presets }
-  with_held Ordinary r x y k = record { priority = h.priority; ordinary = k; load = h.load; presets = h.presets }
+  with_held : (s : Store) (r : Ring) (x y : List ℕ) → Holds s r x y → Alike (with_ring s r p) (with_store s x l) (with_store s y m)
+  with_held Priority r x y k = record { priority = k; ordinary = h.ordinary; load = h.load }
+  with_held Ordinary r x y k = record { priority = h.priority; ordinary = k; load = h.load }
 
   -- its ring alone
-  ringed : (s : Store) (r : Ring) → Holds s r (store_in s l) (store_in s m) → Alike free (with_ring s r p) l m
+  ringed : (s : Store) (r : Ring) → Holds s r (store_in s l) (store_in s m) → Alike (with_ring s r p) l m
   ringed s r k = rw (store_same s l, store_same s m) at (with_held s r (store_in s l) (store_in s m) k)
 
   -- everything cleared
-  cleared : Held free empty_ring empty_ring 0 l m
-  cleared =
-      record { priority = emptied Priority h.priority.size; ordinary = emptied Ordinary h.ordinary.size; load = none_came 0 refl h.load.long; presets = h.presets }
+  cleared : Held empty_ring empty_ring 0 l m
+  cleared = record { priority = emptied Priority h.priority.size; ordinary = emptied Ordinary h.ordinary.size; load = none_came 0 refl h.load.long }
 
   -- a put that is not refused
   added : (s : Store) (b : List ℕ) → PutFits s b (world p l)
-      → Alike free (with_ring s (put_ring (ring_of s p)) p) (with_store s (put_store (capacity_of s) (ring_of s p) (store_in s l) b) l)
+      → Alike (with_ring s (put_ring (ring_of s p)) p) (with_store s (put_store (capacity_of s) (ring_of s p) (store_in s l) b) l)
       (with_store s (put_store (capacity_of s) (ring_of s p) (store_in s m) b) m)
   added s b f =
       let n = capacity_of s in
@@ -113,11 +103,11 @@ module _ {free : Bool} (p : Pod) {l m : Lent} (h : Alike free p l m) where
 
 -- ---- the acknowledgement
 
-module _ (free : Bool) (l m : Lent) where
+module _ (l m : Lent) where
   abbrev So : Pod → Type 0
-  So p = Alike free p l m
+  So p = Alike p l m
 
-  drop_alike : (s : Store) (p : Pod) → Alike free p l m → Alike free (drop_from s p) l m
+  drop_alike : (s : Store) (p : Pod) → Alike p l m → Alike (drop_from s p) l m
   unfolding drop_from
   drop_alike s p h =
       let n = capacity_of s in
@@ -128,46 +118,31 @@ module _ (free : Bool) (l m : Lent) where
       ringed (with_fields f p) h s (dropped_ring n (ring_of s p))
       (record { size = k.size; blocks = twin_drop n (ring_of s p) (store_in s l) (store_in s m) k.blocks }))
 
-  settled_alike : (x : Exchange) (p : Pod) → Alike free p l m → Alike free (settled x p) l m
+  settled_alike : (x : Exchange) (p : Pod) → Alike p l m → Alike (settled x p) l m
   unfolding settled
   settled_alike Closed p h = h
   settled_alike Status p h = h
   settled_alike Read p h = h
   settled_alike (Receive s) p h = drop_alike s p h
 
-  acknowledged_alike : (first : ℕ) (one : Bool) (p : Pod) → Alike free p l m → Alike free (acknowledged_of first one p) l m
+  acknowledged_alike : (first : ℕ) (one : Bool) (p : Pod) → Alike p l m → Alike (acknowledged_of first one p) l m
   unfolding acknowledged_of
   acknowledged_alike first one p h = by-test So (matches first one p.exchange) (λ e. settled_alike p.exchange p h) (λ e. h)
 
 -- ---- a table word
 
 -- where no row of a table word holds, the pod is sound
-sound_by : (lent presets : Bool) (d : Desk) (p : Pod) → Clear (rows_by lent presets d p) → sound_pod p ≡ true
-sound_by true true d p (past a (past b none)) = and_left (sound_pod p) (marks_right d.presets.marks) (not-false b)
-sound_by true false d p (past a (past b none)) = not-false b
-sound_by false true d p (past b none) = and_left (sound_pod p) (marks_right d.presets.marks) (not-false b)
-sound_by false false d p (past b none) = not-false b
-
-sound_word : (c : WordCall) (d : Desk) (p : Pod) → Clear (word_rows c d p) → sound_pod p ≡ true
-sound_word c d p k = sound_by (traits c).lent (traits c).presets d p (rw ((rowed c).rows d p) at k)
-
--- its rows look at sizes and marks alone
-rows_by_lem : (lent presets : Bool) {free : Bool} (t : Three) (d e : List ℕ) (s r : Presets) (p : Pod) → Lends free s r
-    → rows_by lent presets (desk t d s) p ≡ rows_by lent presets (desk t e r) p
-rows_by_lem true true t d e s r p x = rw (x.sized, x.right)
-rows_by_lem true false t d e s r p x = refl
-rows_by_lem false true t d e s r p x = rw x.right
-rows_by_lem false false t d e s r p x = refl
-
-rows_same : (c : WordCall) {free : Bool} (t : Three) (d e : List ℕ) (s r : Presets) (p : Pod) → Lends free s r
-    → word_rows c (desk t d s) p ≡ word_rows c (desk t e r) p
-rows_same c t d e s r p x =
-    (rowed c).rows (desk t d s) p ∙ rows_by_lem (traits c).lent (traits c).presets t d e s r p x ∙ sym ((rowed c).rows (desk t e r) p)
+sound_word : (c : WordCall) (t : Three) (p : Pod) → Clear (word_rows c t p) → sound_pod p ≡ true
+sound_word c t p k = on (word_lent c t) k
+  where
+    on : (rs : List Row) → Clear (rs ++ (state_row p ∷ [])) → sound_pod p ≡ true
+    on [] k = not-false (clear_head k)
+    on (r ∷ rs) k = on rs (clear_rest k)
 
 -- ---- what an answer shows
 
 -- of the stores none but the first of the waiting blocks
-module _ {free : Bool} (p : Pod) (l m : Lent) (h : Alike free p l m) where
+module _ (p : Pod) (l m : Lent) (h : Alike p l m) where
   meant_same : (x : Meant) → meant_body x p l ≡ meant_body x p m
   unfolding meant_body
   meant_same success = refl
@@ -187,15 +162,15 @@ module _ {free : Bool} (p : Pod) (l m : Lent) (h : Alike free p l m) where
 
 -- ---- two worlds
 
-pub data Twin (free : Bool) : World → World → Type 0 where
-  twin : (p : Pod) (l m : Lent) → Alike free p l m → Twin free (world p l) (world p (with_tables l.tables m))
+pub data Twin : World → World → Type 0 where
+  twin : (p : Pod) (l m : Lent) → Alike p l m → Twin (world p l) (world p (with_tables l.tables m))
 
 -- two calls tell the same, leave the same table words, and leave twins
-pub record Same (free : Bool) (s r : Stepped) : Type 0 where
+pub record Same (s r : Stepped) : Type 0 where
   pub points : point s ≡ point r
-  pub twins : Twin free s.world r.world
+  pub twins : Twin s.world r.world
 
-module _ {free : Bool} (p : Pod) (l m : Lent) (h : Alike free p l m) where
+module _ (p : Pod) (l m : Lent) (h : Alike p l m) where
   abbrev w₁ : World
   w₁ = world p l
 
@@ -203,25 +178,25 @@ module _ {free : Bool} (p : Pod) (l m : Lent) (h : Alike free p l m) where
   w₂ = world p (with_tables l.tables m)
 
   -- what leaves the stores and the load alone
-  alone : {a : Told} (q : Pod) (t : Three) → Alike free q l m
-      → Same free (record { told = a; world = world q (with_tables t l) }) (record { told = a; world = world q (with_tables t m) })
+  alone : {a : Told} (q : Pod) (t : Three) → Alike q l m
+      → Same (record { told = a; world = world q (with_tables t l) }) (record { told = a; world = world q (with_tables t m) })
   alone q t k =
-      record { points = refl; twins = twin q (with_tables t l) m (record { priority = k.priority; ordinary = k.ordinary; load = k.load; presets = k.presets }) }
+      record { points = refl; twins = twin q (with_tables t l) m (record { priority = k.priority; ordinary = k.ordinary; load = k.load }) }
 
-  same : {a : Told} → Same free (record { told = a; world = w₁ }) (record { told = a; world = w₂ })
+  same : {a : Told} → Same (record { told = a; world = w₁ }) (record { told = a; world = w₂ })
   same = alone p l.tables h
 
   -- ---- a packet that is not refused
   module _ (room : List ℕ) where
-    answer-same : (x : Spoken) (q : Pod) (t : Three) → Alike free q l m
-        → Same free (over_room (given (answered (out x q (with_tables t l)) room)) w₁) (over_room (given (answered (out x q (with_tables t m)) room)) w₂)
+    answer-same : (x : Spoken) (q : Pod) (t : Three) → Alike q l m
+        → Same (over_room (given (answered (out x q (with_tables t l)) room)) w₁) (over_room (given (answered (out x q (with_tables t m)) room)) w₂)
     unfolding answered
     answer-same x q t k =
-        let c : Alike free q (with_tables t l) (with_tables t m) = record { priority = k.priority; ordinary = k.ordinary; load = k.load; presets = k.presets } in
+        let c : Alike q (with_tables t l) (with_tables t m) = record { priority = k.priority; ordinary = k.ordinary; load = k.load } in
         rw (spoken-same q (with_tables t l) (with_tables t m) c x) (alone q t k)
 
     obeyed-same : (c : Command) → Clear (checks_of c (shut p)) → (first : ℕ)
-        → Same free (over_room (given (answered (replied first (given (done_by c l (shut p)))) room)) w₁)
+        → Same (over_room (given (answered (replied first (given (done_by c l (shut p)))) room)) w₁)
         (over_room (given (answered (replied first (given (done_by c (with_tables l.tables m) (shut p)))) room)) w₂)
     unfolding done_by initialised_pod fresh_pod start_words close_of
     obeyed-same (asked.Initialise f) k first = answer-same (says first _) _ starts (cleared p h)
@@ -232,65 +207,55 @@ module _ {free : Bool} (p : Pod) (l m : Lent) (h : Alike free p l m) where
     obeyed-same asked.Priority k first = answer-same (says first _) _ l.tables h
     obeyed-same asked.Data k first = answer-same (says first _) _ l.tables h
     obeyed-same asked.Shutdown k first =
-        answer-same (says first _) _ l.tables (record { priority = h.priority; ordinary = h.ordinary; load = none_came 0 refl h.load.long; presets = h.presets })
+        answer-same (says first _) _ l.tables (record { priority = h.priority; ordinary = h.ordinary; load = none_came 0 refl h.load.long })
 
     heard-same : (r : Parsed)
-        → Same free (over_room (given (answered (packet_heard r l p) room)) w₁) (over_room (given (answered (packet_heard r (with_tables l.tables m) p) room)) w₂)
+        → Same (over_room (given (answered (packet_heard r l p) room)) w₁) (over_room (given (answered (packet_heard r (with_tables l.tables m) p) room)) w₂)
     unfolding packet_heard obey_of
     heard-same Nothing = answer-same silent p l.tables h
     heard-same (Error first n) = answer-same (says first (refused n)) (shut p) l.tables h
-    heard-same (Acknowledgement first one) = answer-same silent (acknowledged_of first one p) l.tables (acknowledged_alike free l m first one p h)
+    heard-same (Acknowledgement first one) = answer-same silent (acknowledged_of first one p) l.tables (acknowledged_alike l m first one p h)
     heard-same (Asked c) =
         let first = (command_row c).code in
-        ran-two (λ o q. Same free (over_room (given (answered (replied first o) room)) w₁) (over_room (given (answered (replied first q) room)) w₂)) refl
+        ran-two (λ o q. Same (over_room (given (answered (replied first o) room)) w₁) (over_room (given (answered (replied first q) room)) w₂)) refl
         (λ n. answer-same (says first (refused n)) (shut p) l.tables h) (λ k. obeyed-same c k first)
 
-  put_same : (s : Store) (b : List ℕ) → Clear (rows_of w₁ (put s b)) → Same free (putting s b w₁) (putting s b w₂)
+  put_same : (s : Store) (b : List ℕ) → Clear (rows_of w₁ (put s b)) → Same (putting s b w₁) (putting s b w₂)
   put_same s b k = record { points = refl; twins = twin _ _ _ (added p h s b (put_fits s b w₁ k)) }
 
-  word_same : (c : WordCall) → Clear (word_rows c (desk_in l) p) → (free || not (fetches p.words.transfer c)) ≡ true → Same free (wording c w₁) (wording c w₂)
-  word_same c k may =
-      on
-      ((fares c).alike free p.initialised p p.words l.tables l.load m.load l.presets m.presets k may
-      (pod_in p (sound_word c (desk_in l) p k)).words h.load h.presets)
+  word_same : (c : WordCall) → Clear (word_rows c l.tables p) → Same (wording c w₁) (wording c w₂)
+  word_same c k = on ((fares c).alike p.initialised p.words l.tables l.load m.load (pod_in p (sound_word c l.tables p k)).words h.load)
     where
-      on : {o q : Out Giving Words Desk} → SameDesk free o q → Same free (over_desk (given (worded o p)) w₁) (over_desk (given (worded q p)) w₂)
-      on (same-desk g x t d e s r k y) =
-          record {
-            points = refl;
-            twins = twin (with_words x p) (with_desk (desk t d s) l) (with_desk (desk t e r) m)
-                (record { priority = h.priority; ordinary = h.ordinary; load = k; presets = y });
-          }
+      on : {o q : Out Giving Words Desk} → SameDesk o q → Same (over_desk (given (worded o p)) w₁) (over_desk (given (worded q p)) w₂)
+      on (same-desk g x t d e k) =
+          record { points = refl; twins = twin (with_words x p) (with_desk (desk t d) l) (with_desk (desk t e) m) (record { priority = h.priority; ordinary = h.ordinary; load = k }) }
 
   -- the rows look at sizes alone
   all_same : all_row l ≡ all_row (with_tables l.tables m)
   unfolding store_sized
   all_same = rw (h.priority.size, h.ordinary.size)
 
-  steps_same : (c : Call) → May free w₁ c → Same free (step w₁ c) (step w₂ c)
+  steps_same : (c : Call) → Same (step w₁ c) (step w₂ c)
   unfolding step rows_of power_call packet_call put_call word_call lone_call samples_call fresh_pod start_words store_sized
-  steps_same power may = ran-two (λ o q. Same free (over_tables o w₁) (over_tables q w₂)) refl (λ n. same) (λ k. alone fresh_pod starts (cleared p h))
-  steps_same (packet b room) may = ran-two (λ o q. Same free (over_room o w₁) (over_room q w₂)) (rw all_same) (λ n. same) (λ k. heard-same room (packet_read b))
-  steps_same (put s b) may =
-      ran-two (λ o q. Same free (over_store s o w₁) (over_store s q w₂)) (rw (held p h s).size) (λ n. rw (store_same s l, store_same s w₂.lent) same) (put_same s b)
-  steps_same (word c) may =
-      ran-two (λ o q. Same free (over_desk o w₁) (over_desk q w₂)) (rows_same c l.tables l.load m.load l.presets m.presets p h.presets) (λ n. same)
-      (λ k. word_same c k (may k))
-  steps_same (lone c) may = ran-two (λ o q. Same free (over_sent o w₁) (over_sent q w₂)) refl (λ n. same) (λ k. alone _ l.tables h)
-  steps_same (samples k xs) may = ran-two (λ o q. Same free (over_frames o w₁) (over_frames q w₂)) refl (λ n. same) (λ k. same)
+  steps_same power = ran-two (λ o q. Same (over_tables o w₁) (over_tables q w₂)) refl (λ n. same) (λ k. alone fresh_pod starts (cleared p h))
+  steps_same (packet b room) = ran-two (λ o q. Same (over_room o w₁) (over_room q w₂)) (rw all_same) (λ n. same) (λ k. heard-same room (packet_read b))
+  steps_same (put s b) =
+      ran-two (λ o q. Same (over_store s o w₁) (over_store s q w₂)) (rw (held p h s).size) (λ n. rw (store_same s l, store_same s w₂.lent) same) (put_same s b)
+  steps_same (word c) = ran-two (λ o q. Same (over_desk o w₁) (over_desk q w₂)) refl (λ n. same) (word_same c)
+  steps_same (lone c) = ran-two (λ o q. Same (over_sent o w₁) (over_sent q w₂)) refl (λ n. same) (λ k. alone _ l.tables h)
+  steps_same (samples k xs) = ran-two (λ o q. Same (over_frames o w₁) (over_frames q w₂)) refl (λ n. same) (λ k. same)
 
 -- every call tells the same in twins, and leaves twins
-pub twin_step : {free : Bool} {v w : World} → Twin free v w → (c : Call) → May free v c → Same free (step v c) (step w c)
-twin_step (twin p l m h) c may = steps_same p l m h c may
+pub twin_step : {v w : World} → Twin v w → (c : Call) → Same (step v c) (step w c)
+twin_step (twin p l m h) c = steps_same p l m h c
 
 -- so does every list of calls, with the same table words at every point
-pub twin_run : {free : Bool} (cs : List Call) {v w : World} → Twin free v w → Mays free v cs → run v cs ≡ run w cs
+pub twin_run : (cs : List Call) {v w : World} → Twin v w → run v cs ≡ run w cs
 unfolding run
-twin_run [] z ms = refl
-twin_run (c ∷ cs) z (more may ms) = let x = twin_step z c may in ap₂ (λ (a : Point) (r : List Point). a ∷ r) x.points (twin_run cs x.twins ms)
+twin_run [] z = refl
+twin_run (c ∷ cs) z = let x = twin_step z c in ap₂ (λ (a : Point) (r : List Point). a ∷ r) x.points (twin_run cs x.twins)
 
 -- and so do two worlds that one call makes twins
-pub same-run : {free : Bool} (v w : World) (c : Call) (cs : List Call) → Same free (step v c) (step w c) → Mays free (next v c) cs
-    → run v (c ∷ cs) ≡ run w (c ∷ cs)
+pub same-run : (v w : World) (c : Call) (cs : List Call) → Same (step v c) (step w c) → run v (c ∷ cs) ≡ run w (c ∷ cs)
 unfolding run
-same-run v w c cs x ms = ap₂ (λ (a : Point) (r : List Point). a ∷ r) x.points (twin_run cs x.twins ms)
+same-run v w c cs x = ap₂ (λ (a : Point) (r : List Point). a ∷ r) x.points (twin_run cs x.twins)

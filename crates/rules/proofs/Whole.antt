@@ -11,8 +11,7 @@ use Rattle.rules.proofs.NoOther.{tables_only}
 use Rattle.rules.proofs.MessageError.{message_error, status_word_shows}
 use Rattle.rules.proofs.PortOnly.{port_only, places-only}
 use Rattle.rules.proofs.TransferOnly.{transfer_only, reads_shown}
-use Rattle.rules.proofs.PortHistory.{port_is_history, ported-only}
-use Rattle.rules.proofs.Fetching.{presets-only, word_only, tables_are_history, stored_then_fetched}
+use Rattle.rules.proofs.PortHistory.{port_is_history}
 use Rattle.rules.proofs.Checked.{packet_answered, opens_exactly, damage, damage_answered, error_unchanged}
 use Rattle.rules.proofs.Judged.{checks_exactly}
 use Rattle.rules.proofs.Blocks.{blocks_are_history}
@@ -50,11 +49,6 @@ whole =
       transfer_only = transfer_only;
       port_is_history = port_is_history;
       reads_shown = reads_shown;
-      presets-only = presets-only;
-      ported-only = ported-only;
-      word_only = word_only;
-      tables_are_history = tables_are_history;
-      stored_then_fetched = stored_then_fetched;
       packet_answered = packet_answered;
       checks_exactly = checks_exactly;
       opens_exactly = opens_exactly;

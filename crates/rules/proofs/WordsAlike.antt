@@ -2,7 +2,6 @@
 -- Assumes nothing.
 use Prim.Native.Nat.{ℕ, ◌+◌, ◌-◌}
 use mathlib.Core.Path.{◌≡◌, refl}
-use mathlib.Core.Bool.{Bool}
 use mathlib.Core.List.{List}
 use lib.Dec.{ltb}
 use lib.ListN.{length, take}
@@ -10,12 +9,10 @@ use Rattle.rows.specs.Rows.{Out, out}
 use Rattle.rows.proofs.Bool.{by-test}
 use Rattle.tables.specs.declared.Words.{Words}
 use Rattle.orders.specs.declared.Order.{Order}
-use Rattle.orders.specs.declared.Order.TheVariants.{Other, Stop, Restart, Next, Writing, Reading, Preset as Presetting}
+use Rattle.orders.specs.declared.Order.TheVariants.{Other, Stop, Restart, Next, Writing, Reading}
 use Rattle.tables.specs.declared.Transfer.{Transfer}
-use Rattle.tables.specs.declared.Transfer.TheVariants.{Idle, Address, Load, Read, Preset}
-use Rattle.presets.specs.Tables.{Three}
-use Rattle.presets.specs.Presets.{Presets}
-use Rattle.presets.proofs.Lends.{Lends}
+use Rattle.tables.specs.declared.Transfer.TheVariants.{Idle, Address, Load, Read}
+use Rattle.tables.specs.Tables.{Three}
 use Rattle.tables.specs.Port.{Desk, desk, Tabled, fits, close_of, wrong_way, read_opened_at, read_opened, restarted, order_obeyed, read_next, word_given}
 use Rattle.tables.proofs.Stale.{gathered as came_of, Unseen}
 use Rattle.rules.specs.Refusals.{Giving, done}
@@ -31,10 +28,10 @@ none_came k z h = rw z (record { long = h; came = refl })
 
 -- ---- what a table word leaves
 
--- the same is said, with the same port and tables, the same words of an open load have come, and the presets are alike
-pub data SameDesk (free : Bool) : Out Giving Words Desk → Out Giving Words Desk → Type 0 where
-  same-desk : (g : Giving) (w : Words) (t : Three) (d e : List ℕ) (s r : Presets) → Gathered (came_of w.transfer) d e → Lends free s r
-      → SameDesk free (out g w (desk t d s)) (out g w (desk t e r))
+-- the same is said, with the same port and tables, and the same words of an open load have come
+pub data SameDesk : Out Giving Words Desk → Out Giving Words Desk → Type 0 where
+  same-desk : (g : Giving) (w : Words) (t : Three) (d e : List ℕ) → Gathered (came_of w.transfer) d e
+      → SameDesk (out g w (desk t d)) (out g w (desk t e))
 
 -- with a command word none has come
 NoneCame : Words → Type 0
@@ -47,7 +44,6 @@ obeyed-none Stop w = refl
 obeyed-none Restart w = refl
 obeyed-none Next w = refl
 obeyed-none (Writing t n) w = refl
-obeyed-none (Presetting y t) w = refl
 obeyed-none (Reading t n) w = by-test NoneCame (fits t _ (n - 3)) (λ e. refl) (λ e. refl)
 
 -- nor after a data word read
@@ -56,13 +52,10 @@ unfolding word_given wrong_way read_next
 given-none Idle w t = refl
 given-none Address w t = refl
 given-none (Load h k) w t = refl
-given-none (Preset y u) w t = refl
 given-none (Read h k at) w t = by-test (λ (u : Transfer). came_of u ≡ 0) (ltb (k + 1) h.n) (λ e. refl) (λ e. refl)
 
 -- a data word written, by the same words of a load
-pub unseen_same : (free : Bool) (y d : Tabled) → Unseen free y d
-    → SameDesk free (out done y.words (desk y.desk.tables y.desk.load y.desk.presets))
-    (out done d.words (desk d.desk.tables d.desk.load d.desk.presets))
-unseen_same free y d u =
-    rw (u.words, u.tables)
-    (same-desk done d.words d.desk.tables y.desk.load d.desk.load y.desk.presets d.desk.presets (record { long = u.long; came = u.first }) u.presets)
+pub unseen_same : (y d : Tabled) → Unseen y d
+    → SameDesk (out done y.words (desk y.desk.tables y.desk.load)) (out done d.words (desk d.desk.tables d.desk.load))
+unseen_same y d u =
+    rw (u.words, u.tables) (same-desk done d.words d.desk.tables y.desk.load d.desk.load (record { long = u.long; came = u.first }))

@@ -11,7 +11,7 @@ use Rattle.packets.specs.Commands.{command_row}
 use Rattle.packets.specs.Reading.{packet_read}
 use Rattle.packets.specs.Answers.{answer_of, error_answer, status_body, value_body}
 use Rattle.tables.specs.declared.Words.{Words}
-use Rattle.presets.specs.Tables.{Three, starts}
+use Rattle.tables.specs.Tables.{Three, starts}
 use Rattle.tables.specs.Port.{Desk}
 use Rattle.pipe.specs.declared.Sent.{Sent}
 use Rattle.pipe.specs.Input.{sent_packet}
@@ -21,7 +21,7 @@ use Rattle.rules.specs.declared.Pod.{Pod}
 use Rattle.rules.specs.State.{Lent, store_in, with_exchange, with_words, with_ring, with_pipe, ring_of, fresh_pod}
 use Rattle.rules.specs.Obey.{Meant, success, report, value, block, shut, obey_of, acknowledged_of, report_of}
 use Rattle.rules.specs.Refusals.{Giving, done, bytes, Out, room_row, all_row, store_row, tables_row, state_row, block_row, set_row, over_row, asleep_row, full_row, busy_row, eight_row}
-use Rattle.rules.specs.Families.{WordCall, word_of, word_lent, word_state, Sends, PipeCall, byte, timeout, packet_out, taken, LoneCall, deadline, pipe, Reach, reach, lone_of}
+use Rattle.rules.specs.Families.{WordCall, word_of, word_lent, Sends, PipeCall, byte, timeout, packet_out, taken, LoneCall, deadline, pipe, Reach, reach, lone_of}
 
 -- ---- power on: lent the tables
 
@@ -32,7 +32,7 @@ power_rows t = tables_row t ∷ []
 unfoldable pub power_call : Three → Pod → Out Three
 power_call t p = ran (power_rows t) p t (out done fresh_pod starts)
 
--- ---- a packet: lent the answer room, and all else but the words of a load and the presets
+-- ---- a packet: lent the answer room, and all else but the words of a load
 
 pub record Roomed : Type 0 where
   pub room : List ℕ
@@ -98,16 +98,16 @@ shelved s b store p = out done (with_ring s (put_ring (ring_of s p)) p) (put_sto
 unfoldable pub put_call : Store → List ℕ → List ℕ → Pod → Out (List ℕ)
 put_call s b store p = ran (put_rows s b store p) p store (shelved s b store p)
 
--- ---- a table word: lent the tables, the data word in also the words of a load and the presets
+-- ---- a table word: lent the tables, the data word in also the words of a load
 
-abbrev pub word_rows : WordCall → Desk → Pod → List Row
-word_rows c d p = word_lent c d ++ (word_state c d p ∷ [])
+abbrev pub word_rows : WordCall → Three → Pod → List Row
+word_rows c t p = word_lent c t ++ (state_row p ∷ [])
 
 abbrev pub worded : Left Giving Words Desk → Pod → Left Giving Pod Desk
 worded o p = out o.said (with_words o.pod p) o.lent
 
 unfoldable pub word_call : WordCall → Desk → Pod → Out Desk
-word_call c d p = ran (word_rows c d p) p d (worded (word_of c p.initialised p.words d) p)
+word_call c d p = ran (word_rows c d.tables p) p d (worded (word_of c p.initialised p.words d) p)
 
 -- ---- the deadline and the byte pipe, lent nothing that they may change: what is given comes as nothing
 

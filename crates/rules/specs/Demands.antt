@@ -14,9 +14,7 @@ use Rattle.packets.specs.Answers.{error_answer}
 use Rattle.tables.specs.declared.Header.{Header}
 use Rattle.tables.specs.declared.Given.TheVariants.{Nowhere}
 use Rattle.tables.specs.declared.Transfer.TheVariants.{Idle, Read}
-use Rattle.presets.specs.Tables.{starts}
-use Rattle.presets.specs.Presets.{Presets}
-use Rattle.tables.specs.Places.{with_read_place}
+use Rattle.tables.specs.Tables.{starts, with_read_place}
 use Rattle.tables.specs.Port.{start_words, data_count}
 use Rattle.frames.specs.Samples.{averages_of}
 use Rattle.rules.specs.State.{ring_of, sound_pod, Lent, store_in, desk_in}
@@ -30,9 +28,9 @@ use Rattle.rules.specs.Replies.{awake_from, waiting_from, status_from, read_answ
 use Rattle.rules.specs.Checks.{Succeeds, Answers, damaged}
 use Rattle.rules.specs.Judged.{check_of}
 use Rattle.rules.specs.Numbered.{rows_rise, rows_in_order}
-use Rattle.rules.specs.Transfers.{cuts, cuts_load, written_in, others_in, opened, loaded, Loads, Loading, word_shown, read_as, reads_in, Reads, error_by, brought_from, tables_by}
+use Rattle.rules.specs.Transfers.{cuts, cuts_load, written_in, others_in, opened, loaded, Loads, Loading, word_shown, read_as, reads_in, Reads, error_by, tables_by}
 use Rattle.rules.specs.Port.{port_by, heard_in, ported, ported_by}
-use Rattle.rules.specs.Pairs.{Accepts, ShutsDown, kept_of, PresetsHide, seen_in, sizes_in, Asleep, Moment, past_of}
+use Rattle.rules.specs.Pairs.{Accepts, ShutsDown, kept_in, seen_in, sizes_in, Asleep, Moment, past_of}
 
 -- ---- 1. "Any packet, word, sample or state may arrive. Each is answered, or refused by a number in document 01"
 
@@ -101,13 +99,11 @@ ReadMoves =
     → ((final w (word (command x) ∷ cs)).pod.words.places ≡ with_read_place h.table (at + data_count h) w.pod.words.places)
     × ((final w (word (command x) ∷ cs)).pod.words.given ≡ Nowhere)
 
--- ".. and no other": the tables after any call, by what it is and told, the open transfer and the order heard; a fetch changes its own, to
--- what the lent store holds, and a store none
+-- ".. and no other": the tables after any call, by what it is and told, the open transfer and the order heard
 abbrev pub TablesOnly : Type 0
 TablesOnly =
     (w : World) (c : Call)
-    → (next w c).lent.tables
-    ≡ tables_by (event_of c (step w c).told) w.pod.initialised w.pod.words w.lent.load w.lent.tables (brought_from w.lent.presets)
+    → (next w c).lent.tables ≡ tables_by (event_of c (step w c).told) w.pod.initialised w.pod.words (desk_in w.lent)
 
 -- which calls set message error, clear it or leave it
 abbrev pub MessageError : Type 0
@@ -229,44 +225,42 @@ FramesAreHistory =
 -- ---- 3. "Give both the same accepted Initialise, then the same calls .. From that Initialise's answer on, their answers and
 -- table words are equal, and are those of demand 2."
 
--- for ANY two worlds, whatever came before: with equal presets, or with presets that fit, of which none was fetched since
+-- for ANY two worlds that agree in what outlives Initialise, whatever came before
 abbrev pub NoTrace : Type 0
 NoTrace =
-    (f : Fields) (b room : List ℕ) (v w : World) → Accepts f b room v → Accepts f b room w
-    → (cs : List Call) → PresetsHide v w (events (next v (packet b room)) cs) → run v (packet b room ∷ cs) ≡ run w (packet b room ∷ cs)
+    (f : Fields) (b room : List ℕ) (v w : World) → kept_in v ≡ kept_in w → Accepts f b room v → Accepts f b room w
+    → (cs : List Call) → run v (packet b room ∷ cs) ≡ run w (packet b room ∷ cs)
 
--- all that is lent, empty but for presets
-abbrev pub blank : Presets → Lent
-blank s = record { priority = replicate 4096 0; ordinary = replicate 32768 0; tables = starts; load = replicate 64 0; presets = s }
+-- all that is lent, empty
+abbrev pub blank : Lent
+blank = record { priority = replicate 4096 0; ordinary = replicate 32768 0; tables = starts; load = replicate 64 0 }
 
--- a pod just powered, with these presets
-abbrev pub just_powered : Presets → World
-just_powered s = powered (blank s)
+-- a pod just powered
+abbrev pub just_powered : World
+just_powered = powered blank
 
 -- "and are those of demand 2": those of a pod just powered, of which demand 2 speaks, that gets the same Initialise
 abbrev pub AsFromPower : Type 0
 AsFromPower =
-    (f : Fields) (b room : List ℕ) (w : World) (s : Presets) → Accepts f b room w
-    → (cs : List Call) → PresetsHide w (just_powered s) (events (next w (packet b room)) cs)
-    → run w (packet b room ∷ cs) ≡ run (just_powered s) (packet b room ∷ cs)
+    (f : Fields) (b room : List ℕ) (w : World) → kept_in w ≡ kept_in just_powered → Accepts f b room w
+    → (cs : List Call) → run w (packet b room ∷ cs) ≡ run just_powered (packet b room ∷ cs)
 
 -- "Take two pods with any two pasts since power-on, damage and refusals included." Any damage is covered: memory may be
 -- overwritten by anything at any time, so that such a past leads to any world at all, and this is NoTrace in the owner's words
 abbrev pub NoTracePast : Type 0
 NoTracePast =
-    (f : Fields) (b room : List ℕ) (l m : Lent) (ds es : List Moment)
+    (f : Fields) (b room : List ℕ) (l m : Lent) (ds es : List Moment) → kept_in (past_of (powered l) ds) ≡ kept_in (past_of (powered m) es)
     → Accepts f b room (past_of (powered l) ds) → Accepts f b room (past_of (powered m) es)
-    → (cs : List Call) → PresetsHide (past_of (powered l) ds) (past_of (powered m) es) (events (next (past_of (powered l) ds) (packet b room)) cs)
-    → run (past_of (powered l) ds) (packet b room ∷ cs) ≡ run (past_of (powered m) es) (packet b room ∷ cs)
+    → (cs : List Call) → run (past_of (powered l) ds) (packet b room ∷ cs) ≡ run (past_of (powered m) es) (packet b room ∷ cs)
 
 -- ".. two such pods that differ only in parameters, table words and survey blocks answer alike": every call, up to and
 -- including the next accepted Initialise, and by NoTrace ever after
 abbrev pub AnswerAlike : Type 0
 AnswerAlike = (v w : World) → Asleep v w → (cs : List Call) → tells v cs ≡ tells w cs
 
--- "From power-on to the first accepted Initialise": two worlds from power on with equal presets are such a pair, whatever their blocks
+-- "From power-on to the first accepted Initialise": two worlds from power on are such a pair, whatever their blocks
 abbrev pub AsleepFromPower : Type 0
-AsleepFromPower = (l m : Lent) → sizes_in l ≡ sizes_in m → kept_of l.presets ≡ kept_of m.presets → Asleep (powered l) (powered m)
+AsleepFromPower = (l m : Lent) → sizes_in l ≡ sizes_in m → Asleep (powered l) (powered m)
 
 -- "and from an accepted Shutdown to the next accepted Initialise"
 abbrev pub AsleepFromShutdown : Type 0

@@ -5,6 +5,7 @@ use Rattle.std.specs.Prelude.{ℕ, Bool, List, [], ◌∷◌}
 use Rattle.rows.specs.Rows.{Row, Out, out}
 use Rattle.tables.specs.declared.Words.{Words}
 use Rattle.tables.specs.declared.Answered.{Answered}
+use Rattle.tables.specs.Tables.{Three}
 use Rattle.tables.specs.Port.{Desk, Tabled, tabled, command_of, data_in_of, data_out_of, status_of}
 use Rattle.pipe.specs.declared.Pipe.{Pipe}
 use Rattle.pipe.specs.declared.Sent.{Sent}
@@ -14,8 +15,7 @@ use Rattle.pipe.specs.Input.{sent_packet, pipe_byte, pipe_timeout}
 use Rattle.pipe.specs.Output.{output_packet, output_taken, output_timeout}
 use Rattle.rules.specs.declared.Exchange.{Exchange}
 use Rattle.rules.specs.declared.Exchange.TheVariants.{Closed}
-use Rattle.rules.specs.declared.Pod.{Pod}
-use Rattle.rules.specs.Refusals.{Giving, done, reads, tables_row, presets_row, state_row, marks_row}
+use Rattle.rules.specs.Refusals.{Giving, done, reads, tables_row}
 
 -- ---- the table words
 
@@ -39,19 +39,12 @@ word_of (data_in x) on w d = word_written (data_in_of x (tabled w d))
 word_of data_out on w d = word_read (data_out_of w d.tables) d
 word_of status on w d = word_read (status_of w) d
 
--- the sizes of what it is lent: all but the status word are lent the tables, the data word in also the presets
-unfoldable pub word_lent : WordCall → Desk → List Row
-word_lent (command x) d = tables_row d.tables ∷ []
-word_lent (data_in x) d = presets_row d.tables d.presets ∷ []
-word_lent data_out d = tables_row d.tables ∷ []
-word_lent status d = []
-
--- and what it is handed: the state, the data word in also the marks
-unfoldable pub word_state : WordCall → Desk → Pod → Row
-word_state (command x) d p = state_row p
-word_state (data_in x) d p = marks_row p d.presets
-word_state data_out d p = state_row p
-word_state status d p = state_row p
+-- the rows of what it is lent: all but the status word are lent the tables
+unfoldable pub word_lent : WordCall → Three → List Row
+word_lent (command x) t = tables_row t ∷ []
+word_lent (data_in x) t = tables_row t ∷ []
+word_lent data_out t = tables_row t ∷ []
+word_lent status t = []
 
 -- ---- the byte pipe
 

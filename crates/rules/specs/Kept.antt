@@ -7,7 +7,6 @@ use Rattle.packets.specs.declared.Parsed.TheVariants.{Acknowledgement}
 use Rattle.packets.specs.Reading.{packet_read}
 use Rattle.params.specs.Rows.{param_row}
 use Rattle.params.specs.Rules.{is_id, value_at, marked}
-use Rattle.presets.specs.Presets.{Presets}
 use Rattle.rules.specs.declared.Exchange.TheVariants.{Closed}
 use Rattle.rules.specs.State.{Lent, ring_of, remaining_of}
 use Rattle.rules.specs.World.{World, Call, packet, is_answered, next, final, powered}
@@ -55,4 +54,4 @@ fields_listed f =
 
 -- "mode 0, flags 0, poll 1,000, time, limits and remainings 0"
 abbrev pub FreshIs : Type 0
-FreshIs = (s : Presets) → fields_listed (just_powered s).pod.fields ≡ 0 ∷ 0 ∷ 0 ∷ 0 ∷ 0 ∷ 0 ∷ 0 ∷ 0 ∷ 1000 ∷ []
+FreshIs = fields_listed just_powered.pod.fields ≡ 0 ∷ 0 ∷ 0 ∷ 0 ∷ 0 ∷ 0 ∷ 0 ∷ 0 ∷ 1000 ∷ []

@@ -15,10 +15,8 @@ pub mod Judged
 pub mod Numbered
 pub mod Transfers
 pub mod Port
-pub mod Fetched
 pub mod Pairs
 pub mod Demands
 pub mod Kept
-pub mod Preset
 pub mod Listed
 pub mod Whole

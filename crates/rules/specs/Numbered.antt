@@ -1,12 +1,11 @@
--- "Refused calls": document 01's table, request No. 3's two rows and request No. 6's of the presets, each over every call, apart from the calls' own lists. "Each row
+-- "Refused calls": document 01's table and request No. 3's two rows, each over every call, apart from the calls' own lists. "Each row
 -- applies only to calls that are lent the thing."
 -- Assumes nothing.
 use Rattle.std.specs.Prelude.{Bool, true, false, not, ◌&&◌, ◌||◌, List, [], ◌∷◌, ltb, leb, eqb, length}
 use Rattle.rows.specs.Rows.{Row, row}
 use Rattle.blocks.specs.declared.Store.TheVariants.{Priority, Ordinary}
 use Rattle.blocks.specs.Stores.{capacity_of, store_sized}
-use Rattle.presets.specs.Tables.{tables_sized}
-use Rattle.presets.specs.Presets.{marks_right}
+use Rattle.tables.specs.Tables.{tables_sized}
 use Rattle.pipe.specs.declared.Pipe.{Pipe}
 use Rattle.frames.specs.Samples.{bounded_of}
 use Rattle.rules.specs.declared.Pod.{Pod}
@@ -24,24 +23,24 @@ room_short (word c) = false
 room_short (lone c) = false
 room_short (samples k xs) = false
 
--- 2: "a lent store or table is not its exact size": a packet is lent all but the presets, a put its store, power and the words the tables,
--- but the status word, as the others, nothing; the data word in, and it alone, the presets: "a preset store of the wrong size is refusal 2"
+-- 2: "a lent store or table is not its exact size": a packet is lent all, a put its store, power and the words the tables, but
+-- the status word, as the others, nothing
 abbrev pub size_wrong : Call → Lent → Bool
 size_wrong power l = not (tables_sized l.tables)
 size_wrong (packet b room) l = not (store_sized Priority l.priority && (store_sized Ordinary l.ordinary && tables_sized l.tables))
 size_wrong (put s b) l = not (store_sized s (store_in s l))
-size_wrong (word c) l = (traits c).lent && (not (tables_sized l.tables) || ((traits c).presets && not (eqb (length l.presets.words) 1024 && eqb (length l.presets.marks) 12)))
+size_wrong (word c) l = (traits c).lent && not (tables_sized l.tables)
 size_wrong (lone c) l = false
 size_wrong (samples k xs) l = false
 
--- 3: "the state handed in breaks a bound below": power alone is handed none; "a mark over 1 refusal 3"
-abbrev pub state_broken : Call → Pod → Lent → Bool
-state_broken power p l = false
-state_broken (packet b room) p l = not (sound_pod p)
-state_broken (put s b) p l = not (sound_pod p)
-state_broken (word c) p l = not (sound_pod p) || ((traits c).presets && not (marks_right l.presets.marks))
-state_broken (lone c) p l = not (sound_pod p)
-state_broken (samples k xs) p l = not (sound_pod p)
+-- 3: "the state handed in breaks a bound below": power alone is handed none
+abbrev pub state_broken : Call → Pod → Bool
+state_broken power p = false
+state_broken (packet b room) p = not (sound_pod p)
+state_broken (put s b) p = not (sound_pod p)
+state_broken (word c) p = not (sound_pod p)
+state_broken (lone c) p = not (sound_pod p)
+state_broken (samples k xs) p = not (sound_pod p)
 
 -- 4: "a block is not 256 bytes, or a sample set not 128 numbers"
 abbrev pub count_wrong : Call → Bool
@@ -121,7 +120,7 @@ unfoldable pub rows_in_order : World → Call → List Row
 rows_in_order w c =
     row 1 (room_short c)
     ∷ row 2 (size_wrong c w.lent)
-    ∷ row 3 (state_broken c w.pod w.lent)
+    ∷ row 3 (state_broken c w.pod)
     ∷ row 4 (count_wrong c)
     ∷ row 5 (number_over c)
     ∷ row 22 (out_wrong c)

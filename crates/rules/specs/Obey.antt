@@ -11,7 +11,7 @@ use Rattle.packets.specs.declared.Command.TheVariants as command
 use Rattle.packets.specs.declared.Report.{Report}
 use Rattle.packets.specs.Commands.{fields_bounded, command_row}
 use Rattle.params.specs.Rules.{is_id, value_at, write_allowed, stored}
-use Rattle.presets.specs.Tables.{starts}
+use Rattle.tables.specs.Tables.{starts}
 use Rattle.tables.specs.Port.{close_of}
 use Rattle.rules.specs.declared.Exchange.{Exchange}
 use Rattle.rules.specs.declared.Exchange.TheVariants.{Closed, Status, Read, Receive}

@@ -1,19 +1,16 @@
 -- Two worlds: what may differ between them, and what pasts they may have.
 -- Assumes nothing.
-use Rattle.std.specs.Prelude.{ℕ, ◌≡◌, Bool, true, false, ◌&&◌, cond, List, [], ◌∷◌, length}
+use Rattle.std.specs.Prelude.{ℕ, ◌≡◌, Bool, true, false, List, [], ◌∷◌, length}
 use Rattle.packets.specs.declared.Fields.{Fields}
 use Rattle.packets.specs.declared.Parsed.TheVariants.{Asked}
 use Rattle.packets.specs.declared.Command.TheVariants.{Initialise, Shutdown}
 use Rattle.packets.specs.Reading.{packet_read}
-use Rattle.orders.specs.declared.Table.{Table}
-use Rattle.presets.specs.Presets.{Presets, presets_sized, marks_right, is_preset, is_stored, preset_words}
 use Rattle.tables.specs.declared.Words.{Words}
 use Rattle.pipe.specs.declared.Pipe.{Pipe}
 use Rattle.rules.specs.declared.Exchange.{Exchange}
 use Rattle.rules.specs.State.{Lent, sound_pod}
 use Rattle.rules.specs.World.{World, Call, packet, step, next}
-use Rattle.rules.specs.History.{Event, succeeded}
-use Rattle.rules.specs.Fetched.{fetched_none}
+use Rattle.rules.specs.History.{succeeded}
 
 -- the packet is an Initialise with these fields, and this world accepts it
 pub record Accepts (f : Fields) (b room : List ℕ) (w : World) : Type 0 where
@@ -27,34 +24,14 @@ pub record ShutsDown (b room : List ℕ) (w : World) : Type 0 where
   pub asks : packet_read b ≡ Asked Shutdown
   pub accepted : succeeded (step w (packet b room)).told ≡ true
 
--- what outlives an accepted Initialise: the presets. "Equal presets" are equal sizes, equal marks, and equal words where the mark is 1
-pub record Kept : Type 0 where
-  pub size : ℕ
-  pub marks : List ℕ
-  pub words : Table → ℕ → List ℕ
-
-unfoldable pub kept_of : Presets → Kept
-kept_of s =
-    record {
-      size = length s.words;
-      marks = s.marks;
-      words = λ t n. cond (is_preset n && is_stored t n s) (preset_words t n s) [];
-    }
+-- what outlives an accepted Initialise: nothing
+abbrev pub Kept : Type 0
+Kept = Unit {0}
 
 abbrev pub kept_in : World → Kept
-kept_in w = kept_of w.lent.presets
+kept_in w = tt
 
--- "preset stores of the right size and marks 0 or 1"
-abbrev pub presets_fit : World → Bool
-presets_fit w = presets_sized w.lent.presets && marks_right w.lent.presets.marks
-
--- request No. 6: "Demand 3 from now also needs the two pods to hold equal presets at that Initialise, or, with preset stores of the right
--- size and marks 0 or 1, to have fetched none since": by what happened since in the first of them
-pub data PresetsHide (v w : World) (since : List Event) : Type 0 where
-  equal : kept_in v ≡ kept_in w → PresetsHide v w since
-  unfetched : presets_fit v ≡ true → presets_fit w ≡ true → fetched_none since ≡ true → PresetsHide v w since
-
--- the sizes of all that is lent, but for the presets
+-- the sizes of all that is lent
 pub record SizesAlike : Type 0 where
   pub priority : ℕ
   pub ordinary : ℕ
@@ -83,7 +60,6 @@ pub record Seen : Type 0 where
   pub words : Words
   pub pipe : Pipe
   pub sizes : SizesAlike
-  pub kept : Kept
 
 abbrev pub seen_in : World → Seen
 seen_in w =
@@ -94,7 +70,6 @@ seen_in w =
       words = w.pod.words;
       pipe = w.pod.pipe;
       sizes = sizes_in w.lent;
-      kept = kept_in w;
     }
 
 -- "two such pods that differ only in" those, both within their bounds (else row 3 refuses every call of the one) and not initialised

@@ -39,10 +39,6 @@ pub record Ported : Type 0 where
 abbrev pub ported : Bool → Words → List ℕ → Ported
 ported a w l = record { awake = a; words = w; load = l }
 
--- of a world
-abbrev pub port_in : World → Ported
-port_in w = ported w.pod.initialised w.pod.words w.lent.load
-
 unfoldable pub ported_by : Event → Ported → Ported
 ported_by nothing p = p
 ported_by (begins a f) p = ported a start_words p.load

@@ -1,12 +1,11 @@
--- "Refused calls": document 01's numbers and rows, request No. 3's two, request No. 6's of the presets, and the answers in these numbers.
+-- "Refused calls": document 01's numbers and rows, request No. 3's two, and the answers in these numbers.
 -- Assumes nothing.
 use Rattle.std.specs.Prelude.{ℕ, not, ◌&&◌, List, ltb, leb, eqb, length}
 use Rattle.rows.specs.Rows.{Row, row, Said, refused, gave, Out as Left}
 use Rattle.blocks.specs.declared.Store.{Store}
 use Rattle.blocks.specs.declared.Store.TheVariants.{Priority, Ordinary}
 use Rattle.blocks.specs.Stores.{capacity_of, store_sized}
-use Rattle.presets.specs.Tables.{Three, tables_sized}
-use Rattle.presets.specs.Presets.{Presets, presets_sized, marks_right}
+use Rattle.tables.specs.Tables.{Three, tables_sized}
 use Rattle.pipe.specs.Output.{busy_of}
 use Rattle.frames.specs.Samples.{bounded_of}
 use Rattle.rules.specs.declared.Pod.{Pod}
@@ -63,17 +62,9 @@ store_row s l = row 2 (not (store_sized s l))
 abbrev pub tables_row : Three → Row
 tables_row t = row 2 (not (tables_sized t))
 
--- request No. 6: "a preset store of the wrong size is refusal 2", beside the tables
-abbrev pub presets_row : Three → Presets → Row
-presets_row t s = row 2 (not (tables_sized t && presets_sized s))
-
 -- 3: "the state handed in breaks a bound below"
 abbrev pub state_row : Pod → Row
 state_row p = row 3 (not (sound_pod p))
-
--- request No. 6: "a mark over 1 refusal 3", beside the state
-abbrev pub marks_row : Pod → Presets → Row
-marks_row p s = row 3 (not (sound_pod p && marks_right s.marks))
 
 -- 4: "a block is not 256 bytes, or a sample set not 128 numbers"
 abbrev pub block_row : List ℕ → Row

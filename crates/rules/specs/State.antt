@@ -10,8 +10,7 @@ use Rattle.packets.specs.Commands.{fields_bounded}
 use Rattle.params.specs.declared.Params.{Params}
 use Rattle.params.specs.Rules.{start_params, sound_params}
 use Rattle.tables.specs.declared.Words.{Words}
-use Rattle.presets.specs.Tables.{Three}
-use Rattle.presets.specs.Presets.{Presets}
+use Rattle.tables.specs.Tables.{Three}
 use Rattle.tables.specs.Port.{Desk, desk, start_words, is_open}
 use Rattle.tables.specs.Bounds.{sound_words}
 use Rattle.pipe.specs.declared.Pipe.{Pipe}
@@ -104,29 +103,28 @@ sound_pod p =
 
 -- ---- what is lent
 
--- the two stores, the three tables, the words of an open load and the presets, each of any size and with anything in it
+-- the two stores, the three tables and the words of an open load, each of any size and with anything in it
 pub record Lent : Type 0 where
   pub priority : List ℕ
   pub ordinary : List ℕ
   pub tables : Three
   pub load : List ℕ
-  pub presets : Presets
 
 abbrev pub store_in : Store → Lent → List ℕ
 store_in s l = of_store s l.priority l.ordinary
 
 abbrev pub with_store : Store → List ℕ → Lent → Lent
-with_store s x l = record { priority = of_store s x l.priority; ordinary = of_store s l.ordinary x; tables = l.tables; load = l.load; presets = l.presets }
+with_store s x l = record { priority = of_store s x l.priority; ordinary = of_store s l.ordinary x; tables = l.tables; load = l.load }
 
 abbrev pub with_stores : List ℕ → List ℕ → Lent → Lent
 with_stores p o l = with_store Priority p (with_store Ordinary o l)
 
 abbrev pub with_tables : Three → Lent → Lent
-with_tables t l = record { priority = l.priority; ordinary = l.ordinary; tables = t; load = l.load; presets = l.presets }
+with_tables t l = record { priority = l.priority; ordinary = l.ordinary; tables = t; load = l.load }
 
 -- what the table words are lent of it
 abbrev pub desk_in : Lent → Desk
-desk_in l = desk l.tables l.load l.presets
+desk_in l = desk l.tables l.load
 
 abbrev pub with_desk : Desk → Lent → Lent
-with_desk d l = record { priority = l.priority; ordinary = l.ordinary; tables = d.tables; load = d.load; presets = d.presets }
+with_desk d l = record { priority = l.priority; ordinary = l.ordinary; tables = d.tables; load = d.load }

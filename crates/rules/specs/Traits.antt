@@ -6,8 +6,6 @@ use Rattle.rules.specs.Families.{WordCall, command, data_in, data_out, status}
 pub record Traits : Type 0 where
   -- it is lent the tables
   pub lent : Bool
-  -- and the presets
-  pub presets : Bool
   -- it gives a word
   pub gives : Bool
   -- the data words that it writes, and how many it reads
@@ -18,7 +16,7 @@ pub record Traits : Type 0 where
   pub cutsread : Bool
 
 abbrev pub traits : WordCall → Traits
-traits (command x) = record { lent = true; presets = false; gives = false; written = []; reads = 0; cutsload = true; cutsread = true }
-traits (data_in x) = record { lent = true; presets = true; gives = false; written = x ∷ []; reads = 0; cutsload = false; cutsread = true }
-traits data_out = record { lent = true; presets = false; gives = true; written = []; reads = 1; cutsload = true; cutsread = false }
-traits status = record { lent = false; presets = false; gives = true; written = []; reads = 0; cutsload = false; cutsread = false }
+traits (command x) = record { lent = true; gives = false; written = []; reads = 0; cutsload = true; cutsread = true }
+traits (data_in x) = record { lent = true; gives = false; written = x ∷ []; reads = 0; cutsload = false; cutsread = true }
+traits data_out = record { lent = true; gives = true; written = []; reads = 1; cutsload = true; cutsread = false }
+traits status = record { lent = false; gives = true; written = []; reads = 0; cutsload = false; cutsread = false }

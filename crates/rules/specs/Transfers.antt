@@ -1,36 +1,28 @@
 -- Loads and reads with the calls that come in between their words, and the tables and message error after any call.
 -- Assumes nothing.
-use Rattle.std.specs.Prelude.{ℕ, ◌+◌, ◌-◌, ◌<◌, ◌≡◌, Bool, true, false, not, ◌&&◌, ◌||◌, cond, List, [], ◌∷◌, ◌++◌, eqb, length, get_or, take, drop}
+use Rattle.std.specs.Prelude.{ℕ, ◌+◌, ◌-◌, ◌<◌, ◌≡◌, Bool, true, false, not, ◌&&◌, ◌||◌, cond, List, [], ◌∷◌, ◌++◌, eqb, length, get_or}
 use Rattle.std.proofs.lemmas.List.Edits.{sets}
 use Rattle.tables.specs.declared.Header.{Header}
 use Rattle.tables.specs.declared.Words.{Words}
 use Rattle.orders.specs.declared.Order.TheVariants.{Writing, Reading}
 use Rattle.tables.specs.declared.Transfer.{Transfer}
-use Rattle.tables.specs.declared.Transfer.TheVariants.{Idle, Address, Load, Read, Preset}
-use Rattle.presets.specs.Tables.{table_size, Three, starts, tables_sized, words_of}
-use Rattle.tables.specs.Places.{read_place}
-use Rattle.presets.specs.Presets.{Presets, presets_sized, marks_right}
+use Rattle.tables.specs.declared.Transfer.TheVariants.{Idle, Address, Load, Read}
+use Rattle.tables.specs.Tables.{Three, starts, tables_sized, words_of, read_place}
 use Rattle.orders.specs.Command.{table_number, order_heard}
-use Rattle.tables.specs.Port.{desk, data_count, fits, begins_at, close_of, with_transfer, with_error, load_right}
+use Rattle.tables.specs.Port.{Desk, desk, data_count, fits, is_open, begins_at, close_of, with_transfer, with_error, load_right}
 use Rattle.rules.specs.State.{sound_pod, with_words, with_desk}
 use Rattle.rules.specs.Families.{WordCall, command}
 use Rattle.rules.specs.Traits.{traits}
-use Rattle.rules.specs.Heard.{is_under_way, judged, lies_at, mark_of, Brought, word_heard}
+use Rattle.rules.specs.Heard.{judged, word_heard}
 use Rattle.rules.specs.World.{World, world, with_pod, Call, power, packet, put, word, lone, samples, next}
 use Rattle.rules.specs.History.{Event, nothing, begins, sleeps, updates, writes_parameter, opens_exchange, closes_exchange, hears_acknowledgement, puts, words, touches, events}
 
--- a world in which no row of a command word, a data word out or a status word holds
+-- a world in which no row that applies to a table word holds
 pub record Fit (w : World) : Type 0 where
   pub tables : tables_sized w.lent.tables ≡ true
   pub sound : sound_pod w.pod ≡ true
   -- the words of a load are an array of 64
   pub load : length w.lent.load ≡ 64
-
--- nor one of a data word in, which is lent the presets too
-pub record Fed (w : World) : Type 0 where
-  pub fit : Fit w
-  pub presets : presets_sized w.lent.presets ≡ true
-  pub marks : marks_right w.lent.presets.marks ≡ true
 
 -- ---- the calls between
 
@@ -100,11 +92,11 @@ opened h w = with_pod (with_words (with_transfer (Load h 0) (close_of w.pod.word
 abbrev pub loaded : Header → List ℕ → Three → World → World
 loaded h xs s w =
     world (with_words (with_transfer Idle (with_error (w.pod.words.error || not (load_right h xs)) w.pod.words)) w.pod)
-    (with_desk (desk (judged h xs s) (sets w.lent.load 0 xs) w.lent.presets) w.lent)
+    (with_desk (desk (judged h xs s) (sets w.lent.load 0 xs)) w.lent)
 
 -- from its command word x on, whatever calls cs come in between that do not close it, a load's last word being y
 pub record Loads (w : World) (x : ℕ) (h : Header) (cs : List Call) : Type 0 where
-  pub fed : Fed w
+  pub fit : Fit w
   pub awake : w.pod.initialised ≡ true
   pub asked : order_heard true x ≡ Writing h.table h.n
   pub still : left_open cuts_load (events (opened h w) cs) ≡ true
@@ -112,7 +104,7 @@ pub record Loads (w : World) (x : ℕ) (h : Header) (cs : List Call) : Type 0 wh
 
 -- an open load, and calls bs that do not close it and do not bring its last word
 pub record Loading (w : World) (h : Header) (bs : List Call) : Type 0 where
-  pub fed : Fed w
+  pub fit : Fit w
   pub begun : w.pod.words.transfer ≡ Load h 0
   pub still : left_open cuts_load (events w bs) ≡ true
   pub short : length (written_in bs) < h.n
@@ -132,7 +124,6 @@ abbrev pub read_as : Transfer → Three → ℕ
 read_as Idle s = 0
 read_as Address s = 0
 read_as (Load h k) s = 0
-read_as (Preset y t) s = 0
 read_as (Read h k at) s = word_shown h at s k
 
 -- from its command word x on, whatever calls cs come in between that do not close it, fewer than N words being read
@@ -153,7 +144,7 @@ pub record Reads (w : World) (x : ℕ) (h : Header) (at : ℕ) (cs : List Call) 
 unfoldable pub error_by : Event → Bool → Words → List ℕ → Bool → Bool
 error_by nothing on w l e = e
 error_by (begins a f) on w l e = false
-error_by sleeps on w l e = e || is_under_way w.transfer
+error_by sleeps on w l e = e || is_open w.transfer
 error_by (updates f) on w l e = e
 error_by (writes_parameter id v) on w l e = e
 error_by (opens_exchange x) on w l e = e
@@ -165,21 +156,16 @@ error_by (touches t b) on w l e = e
 
 -- ---- the tables
 
--- what the lent store holds: the preset's words where its mark is 1, the start table where it is 0
-abbrev pub brought_from : Presets → Brought
-brought_from s t n = cond (eqb (get_or s.marks (mark_of t n) 0) 1) (take (table_size t) (drop (lies_at t n) s.words)) (words_of t starts)
-
--- the tables after any call, by the port, the words of a load so far and what a fetch brings: power on and an accepted Initialise leave
--- "tables .. at their starts"
-unfoldable pub tables_by : Event → Bool → Words → List ℕ → Three → Brought → Three
-tables_by nothing on w l t b = t
-tables_by (begins a f) on w l t b = starts
-tables_by sleeps on w l t b = t
-tables_by (updates f) on w l t b = t
-tables_by (writes_parameter id v) on w l t b = t
-tables_by (opens_exchange x) on w l t b = t
-tables_by closes_exchange on w l t b = t
-tables_by (hears_acknowledgement first one) on w l t b = t
-tables_by (puts s q) on w l t b = t
-tables_by (words c) on w l t b = (word_heard c on w l).tables t b
-tables_by (touches u m) on w l t b = t
+-- the tables after any call: power on and an accepted Initialise leave "tables .. at their starts"
+unfoldable pub tables_by : Event → Bool → Words → Desk → Three
+tables_by nothing on w d = d.tables
+tables_by (begins a f) on w d = starts
+tables_by sleeps on w d = d.tables
+tables_by (updates f) on w d = d.tables
+tables_by (writes_parameter id v) on w d = d.tables
+tables_by (opens_exchange x) on w d = d.tables
+tables_by closes_exchange on w d = d.tables
+tables_by (hears_acknowledgement first one) on w d = d.tables
+tables_by (puts s b) on w d = d.tables
+tables_by (words c) on w d = (word_heard c on w d.load).tables d.tables
+tables_by (touches t l) on w d = d.tables

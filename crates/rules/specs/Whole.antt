@@ -4,7 +4,6 @@ use Rattle.rules.specs.Demands.{AlwaysAnswered, LowestFirst, RowsExactly, Refuse
 use Rattle.rules.specs.Halves.{PipeIsHistory, HandedIsHistory, PipeOnly}
 use Rattle.rules.specs.Kept.{AwakeIsHistory, FieldsAreHistory, ExchangeIsHistory, ParamsAreHistory, MarksAreHistory, DropGuarded, FreshIs}
 use Rattle.rules.specs.Listed.{ListJudged, ListIsHistory, ParamsOnly, PowerMends}
-use Rattle.rules.specs.Preset.{PresetsOnly, PortedOnly, WordOnly, TablesAreHistory, StoredThenFetched}
 use Rattle.rules.specs.Said.{SaysDone}
 
 pub record Whole : Type 0 where
@@ -31,11 +30,6 @@ pub record Whole : Type 0 where
   pub transfer_only : TransferOnly
   pub port_is_history : PortIsHistory
   pub reads_shown : ReadsShown
-  pub presets-only : PresetsOnly
-  pub ported-only : PortedOnly
-  pub word_only : WordOnly
-  pub tables_are_history : TablesAreHistory
-  pub stored_then_fetched : StoredThenFetched
   pub packet_answered : PacketAnswered
   pub checks_exactly : ChecksExactly
   pub opens_exactly : OpensExactly

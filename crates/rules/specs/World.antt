@@ -4,7 +4,7 @@ use Rattle.std.specs.Prelude.{ℕ, Bool, true, false, not, List, [], ◌∷◌, 
 use Rattle.std.proofs.lemmas.List.Edits.{sets}
 use Rattle.rows.specs.Rows.{Row, Said, refused, gave}
 use Rattle.blocks.specs.declared.Store.{Store}
-use Rattle.presets.specs.Tables.{Three}
+use Rattle.tables.specs.Tables.{Three}
 use Rattle.tables.specs.Port.{Desk}
 use Rattle.pipe.specs.declared.Sent.{Sent}
 use Rattle.pipe.specs.Input.{sent_bytes}
@@ -103,7 +103,7 @@ unfoldable pub rows_of : World → Call → List Row
 rows_of w power = power_rows w.lent.tables
 rows_of w (packet b room) = packet_rows (roomed room w.lent) w.pod
 rows_of w (put s b) = put_rows s b (store_in s w.lent) w.pod
-rows_of w (word c) = word_rows c (desk_in w.lent) w.pod
+rows_of w (word c) = word_rows c w.lent.tables w.pod
 rows_of w (lone c) = lone_rows c w.pod
 rows_of w (samples k xs) = samples_rows k xs w.pod
 

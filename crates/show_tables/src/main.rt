@@ -1,21 +1,20 @@
 // Every command word on a port just started: those that are accepted, by parity bit, direction, command and N.
 ghost use Rattle.std.specs.Prelude.{◌≡◌, true, not, [], ◌≤◌};
-ghost use Rattle.presets.specs.Tables.{starts};
-ghost use Rattle.presets.specs.Presets.{presets};
+ghost use Rattle.tables.specs.Tables.{starts};
 ghost use Rattle.tables.specs.Port.{desk, tabled, start_words, command_of};
 
 use libc::STDOUT_FILENO;
 
 // A command word is accepted when a port just started shows no message error after it.
 fn accepted(word: u16) -> bool
-    ensures { result ≡ not (command_of true word (tabled start_words (desk starts [] (presets [] [])))).words.error }
+    ensures { result ≡ not (command_of true word (tabled start_words (desk starts []))).words.error }
 {
     let mut five = [0u16; 64];
     let mut six = [0u16; 128];
     let mut seven = [0u16; 64];
-    presets::to_starts(&mut five, &mut six, &mut seven);
+    tables::to_starts(&mut five, &mut six, &mut seven);
     let fresh = tables::start_words();
-    let after = table_words::command(fresh, true, word, &mut five, &mut six, &mut seven);
+    let after = tables::command(fresh, true, word, &mut five, &mut six, &mut seven);
     !after.error
 }
 

@@ -5,7 +5,7 @@ use Prim.Native.Nat.{ℕ}
 use Rattle.tables.specs.declared.Words.{Words}
 use Rattle.orders.specs.declared.Order.TheVariants.{Other}
 use Rattle.tables.specs.declared.Transfer.TheVariants.{Idle}
-use Rattle.presets.specs.Tables.{Three}
+use Rattle.tables.specs.Tables.{Three}
 use Rattle.orders.specs.Command.{order_heard}
 use Rattle.tables.specs.Port.{Tabled, tabled, answer, close_of, wrong_way, order_obeyed, tables_after, command_of, word_taken, data_in_of, word_given, data_out_of}
 use Rattle.tables.proofs.Obeying.{obeyed, taken_by, given_by}

@@ -13,14 +13,12 @@ use Rattle.tables.specs.declared.Places.{Places}
 use Rattle.tables.specs.declared.Words.{Words}
 use Rattle.orders.specs.declared.Parts.{Parts}
 use Rattle.orders.specs.declared.Order.{Order}
-use Rattle.orders.specs.declared.Order.TheVariants.{Other, Stop, Restart, Next, Writing, Reading, Preset as Presetting}
+use Rattle.orders.specs.declared.Order.TheVariants.{Other, Stop, Restart, Next, Writing, Reading}
 use Rattle.tables.specs.declared.Transfer.{Transfer}
-use Rattle.tables.specs.declared.Transfer.TheVariants.{Idle, Address, Load, Read, Preset}
-use Rattle.presets.specs.Tables.{Three, table_size}
-use Rattle.tables.specs.Places.{with_read_place}
-use Rattle.presets.specs.Presets.{is_preset}
+use Rattle.tables.specs.declared.Transfer.TheVariants.{Idle, Address, Load, Read}
+use Rattle.tables.specs.Tables.{Three, table_size, with_read_place}
 use Rattle.orders.specs.Command.{length_allowed, writes, transfer_asked, parts_of, order_of, order_heard}
-use Rattle.tables.specs.Port.{Tabled, header, data_count, fits, start_words, close_of, wrong_way, read_opened_at, read_opened, restarted, order_obeyed, command_of, load_right, load_judged, load_of, preset_of, word_taken, data_in_of, read_next, word_given, data_out_of}
+use Rattle.tables.specs.Port.{Tabled, header, data_count, fits, start_words, close_of, wrong_way, read_opened_at, read_opened, restarted, order_obeyed, command_of, load_right, load_judged, load_of, word_taken, data_in_of, read_next, word_given, data_out_of}
 use Rattle.tables.specs.Bounds.{sound_places, sound_transfer, sound_words}
 use Rattle.rows.proofs.Bool.{by-test}
 use Rattle.orders.proofs.Lengths.{allowed_has}
@@ -36,7 +34,6 @@ Able Restart = Unit {0}
 Able Next = Unit {0}
 Able (Writing t n) = length_allowed n ≡ true
 Able (Reading t n) = length_allowed n ≡ true
-Able (Presetting y t) = Unit {0}
 
 asked_able : (t : Table) (p : Parts) → length_allowed p.n ≡ true → Able (transfer_asked t p)
 asked_able t p h = by-test Able p.reads (λ e. h) (λ e. h)
@@ -52,12 +49,7 @@ order_able p =
     (λ a. by-test Able (eqb p.command 5) (λ x. asked_able Five p a)
     (λ x. by-test Able (eqb p.command 6) (λ y. asked_able Six p a)
     (λ y. by-test Able (eqb p.command 7) (λ z. asked_able Seven p a) (λ z. tt))))
-    (λ a. by-test Able (writes p 10 1) (λ x. tt)
-    (λ x. by-test Able (writes p 11 1) (λ x. tt)
-    (λ x. by-test Able (writes p 12 1) (λ x. tt)
-    (λ x. by-test Able (writes p 14 1) (λ x. tt)
-    (λ x. by-test Able (writes p 15 1) (λ x. tt)
-    (λ x. by-test Able (writes p 16 1) (λ x. tt) (λ x. tt)))))))))))
+    (λ a. tt)))))
 
 heard_able : (on : Bool) (word : ℕ) → Able (order_heard on word)
 unfolding order_heard
@@ -110,7 +102,6 @@ obeyed_sound Restart w a s = both_sound _ refl (sound_transfer_lem w s)
 obeyed_sound Next w a s = both_sound _ (sound_places_lem w s) refl
 obeyed_sound (Writing t n) w a s = both_sound _ (sound_places_lem w s) (in_load (header t n) 0 (begun (header t n) a))
 obeyed_sound (Reading t n) w a s = read_sound (header t n) _ w a s
-obeyed_sound (Presetting y t) w a s = both_sound _ (sound_places_lem w s) refl
 
 pub command_sound : (on : Bool) (word : ℕ) (s : Tabled) → sound_words s.words ≡ true → sound_words (command_of on word s).words ≡ true
 unfolding command_of
@@ -131,13 +122,11 @@ load_sound h k x s i b =
     (λ f. both_sound _ (sound_places_lem s.words i) refl))
 
 taken_sound : (t : Transfer) (x : ℕ) (s : Tabled) → sound_words s.words ≡ true → sound_transfer t ≡ true → sound_words (word_taken t x s).words ≡ true
-unfolding word_taken preset_of sound_transfer TabledSound
+unfolding word_taken sound_transfer
 taken_sound Idle x s i e = wrong_sound s.words i
 taken_sound Address x s i e = both_sound _ (sound_places_lem s.words i) refl
 taken_sound (Load h k) x s i e = load_sound h k x s i (load_in_lem h k e)
 taken_sound (Read h k at) x s i e = wrong_sound s.words i
-taken_sound (Preset y t) x s i e =
-    by-test TabledSound (is_preset x) (λ e. both_sound _ (sound_places_lem s.words i) refl) (λ e. wrong_sound s.words i)
 
 pub data_in_sound : (x : ℕ) (s : Tabled) → sound_words s.words ≡ true → sound_words (data_in_of x s).words ≡ true
 unfolding data_in_of
@@ -160,7 +149,6 @@ unfolding word_given sound_transfer
 given_sound Idle w s i e = wrong_sound w i
 given_sound Address w s i e = wrong_sound w i
 given_sound (Load h k) w s i e = wrong_sound w i
-given_sound (Preset y t) w s i e = wrong_sound w i
 given_sound (Read h k at) w s i e = both_sound _ (sound_places_lem w i) (next_sound h k at (read_in_lem h k at e))
 
 pub data_out_sound : (w : Words) (s : Three) → sound_words w ≡ true → sound_words (data_out_of w s).words ≡ true

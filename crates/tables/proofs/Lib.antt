@@ -1,3 +1,4 @@
+pub mod Lists
 pub mod Obeying
 pub mod Closing
 pub mod Reading
@@ -6,3 +7,4 @@ pub mod Limits
 pub mod Storing
 pub mod Stale
 pub mod Kept
+pub mod Lengths

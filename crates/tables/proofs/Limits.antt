@@ -9,7 +9,7 @@ use Rattle.tables.specs.declared.Header.{Header}
 use Rattle.tables.specs.declared.Places.{Places}
 use Rattle.tables.specs.declared.Words.{Words}
 use Rattle.tables.specs.declared.Transfer.TheVariants.{Load, Read}
-use Rattle.presets.specs.Tables.{table_size}
+use Rattle.tables.specs.Tables.{table_size}
 use Rattle.orders.specs.Command.{length_allowed}
 use Rattle.tables.specs.Port.{data_count, fits}
 use Rattle.tables.specs.Bounds.{sound_places, sound_transfer, sound_words}

@@ -5,13 +5,13 @@ use Prim.Native.Nat.{ℕ}
 use Rattle.tables.specs.declared.Words.{Words}
 use Rattle.orders.specs.declared.Order.{Order}
 use Rattle.tables.specs.declared.Transfer.{Transfer}
-use Rattle.presets.specs.Tables.{Three}
+use Rattle.tables.specs.Tables.{Three}
 use Rattle.orders.specs.Command.{order_heard}
 use Rattle.tables.specs.Port.{Desk, desk, Tabled, tabled, close_of, order_obeyed, tables_after, command_of, word_taken, data_in_of, word_given, data_out_of}
 
 -- a command word closes what is open, and then does what it asks for
 pub obeyed : (o : Order) (on : Bool) (word : ℕ) (s : Tabled) → order_heard on word ≡ o
-    → command_of on word s ≡ tabled (order_obeyed o (close_of s.words)) (desk (tables_after o s.desk.tables) s.desk.load s.desk.presets)
+    → command_of on word s ≡ tabled (order_obeyed o (close_of s.words)) (desk (tables_after o s.desk.tables) s.desk.load)
 unfolding command_of
 obeyed o on word s h = rw h
 

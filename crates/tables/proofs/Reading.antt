@@ -14,8 +14,7 @@ use Rattle.tables.specs.declared.Header.{Header}
 use Rattle.tables.specs.declared.Words.{Words}
 use Rattle.tables.specs.declared.Given.TheVariants.{Nowhere}
 use Rattle.tables.specs.declared.Transfer.TheVariants.{Idle, Read}
-use Rattle.presets.specs.Tables.{table_size}
-use Rattle.tables.specs.Places.{with_read_place}
+use Rattle.tables.specs.Tables.{table_size, with_read_place}
 use Rattle.orders.specs.Command.{table_number}
 use Rattle.tables.specs.Port.{data_count, word_three, fits, read_opened_at, read_word, read_next, erred, with_given, with_places, with_transfer}
 

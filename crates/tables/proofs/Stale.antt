@@ -4,27 +4,20 @@ use native.Mathlib.Nat.{zero-add, suc-add}
 use native.Mathlib.Numerals.{add-one}
 use native.Mathlib.Omega.{arith}
 use mathlib.Core.Path.{◌≡◌, refl, sym, ap, ◌∙◌}
-use mathlib.Core.Bool.{Bool, true, false, not, ◌&&◌, ◌||◌}
+use mathlib.Core.Bool.{true}
 use mathlib.Core.List.{List, [], ◌∷◌, ◌++◌}
-use lib.Dec.{ltb, eqb}
+use lib.Dec.{ltb}
 use lib.ListN.{length, get_or, set, take, drop, length-set}
 use lib.Seq.{take_all, take-nil, drop-nil, take-suc-set, get_or-take}
-use borrow.Author.Tests.{ltb-true, ltb-false, eqb-true}
-use Rattle.orders.specs.declared.Table.{Table}
-use Rattle.orders.specs.declared.Table.TheVariants.{Five, Six, Seven}
-use Rattle.orders.specs.declared.Way.{Way}
-use Rattle.orders.specs.declared.Way.TheVariants.{Store, Fetch}
+use borrow.Author.Tests.{ltb-true, ltb-false}
 use Rattle.tables.specs.declared.Header.{Header}
-use Rattle.tables.specs.declared.Given.TheVariants.{At}
 use Rattle.tables.specs.declared.Words.{Words}
 use Rattle.tables.specs.declared.Transfer.{Transfer}
-use Rattle.tables.specs.declared.Transfer.TheVariants.{Idle, Address, Load, Read, Preset}
-use Rattle.presets.specs.Tables.{table_size, Three, words_of, with_table, tables_sized}
-use Rattle.presets.specs.Presets.{Presets, presets_sized, marks_right, is_preset, preset_moved}
-use Rattle.presets.proofs.Lends.{Lends, stored_lends}
-use Rattle.tables.specs.Port.{desk, Tabled, tabled, with_transfer, with_given, is_fetch, data_count, wrong_way, load_right, stored_in, load_judged, load_of, preset_desk, preset_of, word_taken, data_in_of}
+use Rattle.tables.specs.declared.Transfer.TheVariants.{Idle, Address, Load, Read}
+use Rattle.tables.specs.Tables.{Three, words_of}
+use Rattle.tables.specs.Port.{desk, Tabled, tabled, data_count, wrong_way, load_right, stored_in, load_judged, load_of, word_taken, data_in_of}
 use Rattle.tables.specs.Bounds.{sound_transfer, sound_words}
-use Rattle.rows.proofs.Bool.{split, never, not-true, and_left, and_right}
+use Rattle.rows.proofs.Bool.{split}
 use Rattle.tables.proofs.Limits.{sound_transfer_lem, LoadIn, load_in_lem}
 
 -- how many words an open load has gathered
@@ -33,7 +26,6 @@ gathered Idle = 0
 gathered Address = 0
 gathered (Load h k) = k
 gathered (Read h k at) = 0
-gathered (Preset y t) = 0
 
 -- one word more, put behind k words that are equal
 take_set : (k x : ℕ) (a b : List ℕ) → length a ≡ length b → take k a ≡ take k b → take (suc k) (set a k x) ≡ take (suc k) (set b k x)
@@ -68,77 +60,41 @@ module _ (h : Header) (a b : List ℕ) (least : 4 ≤ h.n) (e : take h.n a ≡ t
       let count : 3 + data_count h ≡ h.n = omega arith in
       rw (word_same 1 (omega arith), take_drop 3 (data_count h) a, take_drop 3 (data_count h) b, count, e)
 
--- a fetch that is made is free
-by_fetch : (free b : Bool) → b ≡ true → (free || not b) ≡ true → free ≡ true
-by_fetch true b h k = refl
-by_fetch false b h k = never h (not-true k)
-
--- each table that is judged has its size
-pub table_long : (t : Table) (s : Three) → tables_sized s ≡ true → length (words_of t s) ≡ table_size t
-unfolding tables_sized
-table_long Five s e = eqb-true _ _ (and_left (eqb (length s.five) 64) (eqb (length s.six) 128 && eqb (length s.seven) 64) e)
-table_long Six s e =
-    eqb-true _ _ (and_left (eqb (length s.six) 128) (eqb (length s.seven) 64) (and_right (eqb (length s.five) 64) (eqb (length s.six) 128 && eqb (length s.seven) 64) e))
-table_long Seven s e =
-    eqb-true _ _ (and_right (eqb (length s.six) 128) (eqb (length s.seven) 64) (and_right (eqb (length s.five) 64) (eqb (length s.six) 128 && eqb (length s.seven) 64) e))
-
--- the same but for words of the load that have not come, and presets that no fetch which is made tells apart
-pub record Unseen (free : Bool) (y d : Tabled) : Type 0 where
+-- the same but for words of the load that have not come
+pub record Unseen (y d : Tabled) : Type 0 where
   pub words : y.words ≡ d.words
   pub tables : y.desk.tables ≡ d.desk.tables
   pub long : length y.desk.load ≡ length d.desk.load
   pub first : take (gathered d.words.transfer) y.desk.load ≡ take (gathered d.words.transfer) d.desk.load
-  pub presets : Lends free y.desk.presets d.desk.presets
 
-module _ (free : Bool) (x : ℕ) (w : Words) (s : Three) (a b : List ℕ) (p r : Presets) (long : length a ≡ length b) (lends : Lends free p r) where
+module _ (x : ℕ) (w : Words) (s : Three) (a b : List ℕ) (long : length a ≡ length b) where
   load_unseen : (h : Header) (k : ℕ) → LoadIn h k → take k a ≡ take k b
-      → Unseen free (load_of h k x (tabled w (desk s a p))) (load_of h k x (tabled w (desk s b r)))
+      → Unseen (load_of h k x (tabled w (desk s a))) (load_of h k x (tabled w (desk s b)))
   unfolding load_of load_judged
   load_unseen h k i e =
       let more : take (suc k) (set a k x) ≡ take (suc k) (set b k x) = take_set k x a b long e in
       let lengths : length (set a k x) ≡ length (set b k x) = length-set a k x ∙ long ∙ sym (length-set b k x) in
       split (ltb (k + 1) h.n)
-      (λ f. rw f (record { words = refl; tables = refl; long = lengths; first = rw (add-one k) more; presets = lends }))
+      (λ f. rw f (record { words = refl; tables = refl; long = lengths; first = rw (add-one k) more }))
       (λ f.
       let last : h.n ≡ suc k = omega (arith, ltb-false (k + 1) h.n f, i.along) in
       let all : take h.n (set a k x) ≡ take h.n (set b k x) = rw last more in
       let least = i.allowed.least in
       rw (f, right_same h (set a k x) (set b k x) least all, stored_same h (set a k x) (set b k x) least all (words_of h.table s))
       (split (load_right h (set b k x))
-      (λ r. rw r (record { words = refl; tables = refl; long = lengths; first = refl; presets = lends }))
-      (λ r. rw r (record { words = refl; tables = refl; long = lengths; first = refl; presets = lends }))))
+      (λ r. rw r (record { words = refl; tables = refl; long = lengths; first = refl }))
+      (λ r. rw r (record { words = refl; tables = refl; long = lengths; first = refl }))))
 
-  -- what leaves all that is lent
-  kept_unseen : (v : Words) → gathered v.transfer ≡ 0 → Unseen free (tabled v (desk s a p)) (tabled v (desk s b r))
-  kept_unseen v z = record { words = refl; tables = refl; long = long; first = rw z; presets = lends }
+  taken_unseen : (u : Transfer) → sound_transfer u ≡ true → take (gathered u) a ≡ take (gathered u) b
+      → Unseen (word_taken u x (tabled w (desk s a))) (word_taken u x (tabled w (desk s b)))
+  unfolding word_taken wrong_way
+  taken_unseen Idle i e = record { words = refl; tables = refl; long = long; first = refl }
+  taken_unseen Address i e = record { words = refl; tables = refl; long = long; first = refl }
+  taken_unseen (Load h k) i e = load_unseen h k (load_in_lem h k i) e
+  taken_unseen (Read h k at) i e = record { words = refl; tables = refl; long = long; first = refl }
 
-  module _ (tables : tables_sized s ≡ true) (sized : presets_sized p ≡ true) (right : marks_right p.marks ≡ true) where
-    moved_unseen : (y : Way) (t : Table) → is_preset x ≡ true → (free || not (is_fetch (Preset y t) && is_preset x)) ≡ true
-        → Unseen free (tabled (with_transfer Idle w) (preset_desk y t x (desk s a p))) (tabled (with_transfer Idle w) (preset_desk y t x (desk s b r)))
-    unfolding preset_desk preset_moved
-    moved_unseen Store t h k =
-        record { words = refl; tables = refl; long = long; first = refl; presets = stored_lends free t x (words_of t s) p r h (table_long t s tables) sized right lends }
-    moved_unseen Fetch t h k =
-        let may : free ≡ true = by_fetch free (is_preset x) h k in
-        record { words = refl; tables = ap (λ (l : List ℕ). with_table t l s) (lends.brings may t x h); long = long; first = refl; presets = lends }
-
-    preset_unseen : (y : Way) (t : Table) → (free || not (is_fetch (Preset y t) && is_preset x)) ≡ true
-        → Unseen free (preset_of y t x (tabled w (desk s a p))) (preset_of y t x (tabled w (desk s b r)))
-    unfolding preset_of wrong_way
-    preset_unseen y t k = split (is_preset x) (λ e. rw e (moved_unseen y t e k)) (λ e. rw e (kept_unseen (wrong_way w) refl))
-
-    taken_unseen : (u : Transfer) → sound_transfer u ≡ true → (free || not (is_fetch u && is_preset x)) ≡ true → take (gathered u) a ≡ take (gathered u) b
-        → Unseen free (word_taken u x (tabled w (desk s a p))) (word_taken u x (tabled w (desk s b r)))
-    unfolding word_taken wrong_way
-    taken_unseen Idle i k e = kept_unseen (wrong_way w) refl
-    taken_unseen Address i k e = kept_unseen (with_given (At x) (with_transfer Idle w)) refl
-    taken_unseen (Load h j) i k e = load_unseen h j (load_in_lem h j i) e
-    taken_unseen (Read h j at) i k e = kept_unseen (wrong_way w) refl
-    taken_unseen (Preset y t) i k e = preset_unseen y t k
-
-    -- a data word written: equal states and tables, and of the words of a load the same have come
-    pub data_in_unseen : sound_words w ≡ true → (free || not (is_fetch w.transfer && is_preset x)) ≡ true
-        → take (gathered w.transfer) a ≡ take (gathered w.transfer) b
-        → Unseen free (data_in_of x (tabled w (desk s a p))) (data_in_of x (tabled w (desk s b r)))
-    unfolding data_in_of
-    data_in_unseen i k e = taken_unseen w.transfer (sound_transfer_lem w i) k e
+  -- a data word written: equal states and tables, and of the words of a load the same have come
+  pub data_in_unseen : sound_words w ≡ true → take (gathered w.transfer) a ≡ take (gathered w.transfer) b
+      → Unseen (data_in_of x (tabled w (desk s a))) (data_in_of x (tabled w (desk s b)))
+  unfolding data_in_of
+  data_in_unseen i e = taken_unseen w.transfer (sound_transfer_lem w i) e

@@ -9,7 +9,7 @@ use lib.ListN.{length, get_or, take, drop, length-take, length-drop}
 use lib.Seq.{length-sets, get_or-take, get_or-drop}
 use Rattle.numbers.proofs.Stores.{sets_before, sets_behind, sets_inside}
 use Rattle.tables.specs.declared.Header.{Header}
-use Rattle.presets.specs.Tables.{table_size}
+use Rattle.tables.specs.Tables.{table_size}
 use Rattle.tables.specs.Port.{data_count, load_right, stored_in}
 use Rattle.tables.proofs.Loading.{right_within}
 

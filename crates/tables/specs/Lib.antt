@@ -1,3 +1,3 @@
-pub mod Places
+pub mod Tables
 pub mod Port
 pub mod Bounds

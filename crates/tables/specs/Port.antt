@@ -2,8 +2,6 @@
 use Rattle.std.specs.Prelude.{ℕ, ◌+◌, ◌-◌, Bool, true, false, ◌&&◌, ◌||◌, cond, List, ◌∷◌, get_or, set, take, drop, ltb, leb, eqb}
 use Rattle.std.proofs.lemmas.List.Edits.{sets}
 use Rattle.orders.specs.declared.Table.{Table}
-use Rattle.orders.specs.declared.Way.{Way}
-use Rattle.orders.specs.declared.Way.TheVariants.{Store, Fetch}
 use Rattle.tables.specs.declared.Header.{Header}
 use Rattle.tables.specs.declared.Places.{Places}
 use Rattle.tables.specs.declared.Words.{Words}
@@ -11,12 +9,10 @@ use Rattle.tables.specs.declared.Answered.{Answered}
 use Rattle.tables.specs.declared.Given.{Given}
 use Rattle.tables.specs.declared.Given.TheVariants.{Nowhere, At}
 use Rattle.tables.specs.declared.Transfer.{Transfer}
-use Rattle.tables.specs.declared.Transfer.TheVariants.{Idle, Address, Load, Read, Preset}
+use Rattle.tables.specs.declared.Transfer.TheVariants.{Idle, Address, Load, Read}
 use Rattle.orders.specs.declared.Order.{Order}
-use Rattle.orders.specs.declared.Order.TheVariants.{Other, Stop, Restart, Next, Writing, Reading, Preset as Presetting}
-use Rattle.presets.specs.Tables.{table_size, Three, starts, words_of, with_table}
-use Rattle.tables.specs.Places.{read_place, with_read_place}
-use Rattle.presets.specs.Presets.{Presets, is_preset, Moved, preset_moved}
+use Rattle.orders.specs.declared.Order.TheVariants.{Other, Stop, Restart, Next, Writing, Reading}
+use Rattle.tables.specs.Tables.{table_size, Three, starts, words_of, with_table, read_place, with_read_place}
 use Rattle.orders.specs.Command.{table_number, order_heard}
 
 -- ---- the state with one field changed
@@ -33,14 +29,13 @@ with_places p w = record { error = w.error; transfer = w.transfer; places = p; g
 abbrev pub with_given : Given → Words → Words
 with_given g w = record { error = w.error; transfer = w.transfer; places = w.places; given = g }
 
--- what is lent: the three tables, the words of an open load as far as it has come, and the presets
+-- what is lent: the three tables, and the words of an open load as far as it has come
 pub record Desk : Type 0 where
   pub tables : Three
   pub load : List ℕ
-  pub presets : Presets
 
-abbrev pub desk : Three → List ℕ → Presets → Desk
-desk t l s = record { tables = t; load = l; presets = s }
+abbrev pub desk : Three → List ℕ → Desk
+desk t l = record { tables = t; load = l }
 
 -- the state together with what is lent
 pub record Tabled : Type 0 where
@@ -72,16 +67,6 @@ is_open Idle = false
 is_open Address = true
 is_open (Load h k) = true
 is_open (Read h k at) = true
-is_open (Preset y t) = true
-
--- whether it is a preset's number that is awaited, to fetch it
-abbrev pub is_fetch : Transfer → Bool
-is_fetch Idle = false
-is_fetch Address = false
-is_fetch (Load h k) = false
-is_fetch (Read h k at) = false
-is_fetch (Preset Store t) = false
-is_fetch (Preset Fetch t) = true
 
 -- closing an open transfer before its last word sets message error
 unfoldable pub close_of : Words → Words
@@ -134,7 +119,6 @@ order_obeyed Restart w = restarted w
 order_obeyed Next w = with_transfer Address w
 order_obeyed (Writing t n) w = with_transfer (Load (header t n) 0) w
 order_obeyed (Reading t n) w = read_opened (header t n) w
-order_obeyed (Presetting y t) w = with_transfer (Preset y t) w
 
 -- and to the tables
 unfoldable pub tables_after : Order → Three → Three
@@ -144,12 +128,11 @@ tables_after Restart s = starts
 tables_after Next s = s
 tables_after (Writing t n) s = s
 tables_after (Reading t n) s = s
-tables_after (Presetting y t) s = s
 
 -- every command word closes an open transfer first; a Bool says whether the pod is initialised
 unfoldable pub command_of : Bool → ℕ → Tabled → Tabled
 command_of on word s =
-    tabled (order_obeyed (order_heard on word) (close_of s.words)) (desk (tables_after (order_heard on word) s.desk.tables) s.desk.load s.desk.presets)
+    tabled (order_obeyed (order_heard on word) (close_of s.words)) (desk (tables_after (order_heard on word) s.desk.tables) s.desk.load)
 
 -- ---- a data word written
 
@@ -167,32 +150,18 @@ unfoldable pub stored_in : Header → List ℕ → List ℕ → List ℕ
 stored_in h l table = sets table (get_or l 1 0) (take (data_count h) (drop 3 l))
 
 -- a load is judged with its last word: the run is stored, or nothing is written and message error is set
-unfoldable pub load_judged : Header → List ℕ → Words → Three → Presets → Tabled
-load_judged h l w s r =
+unfoldable pub load_judged : Header → List ℕ → Words → Three → Tabled
+load_judged h l w s =
     cond (load_right h l)
-    (tabled w (desk (with_table h.table (stored_in h l (words_of h.table s)) s) l r))
-    (tabled (erred w) (desk s l r))
+    (tabled w (desk (with_table h.table (stored_in h l (words_of h.table s)) s) l))
+    (tabled (erred w) (desk s l))
 
 -- word k of a load, from 0: the words gather, and the last one closes the load, taken or not
 unfoldable pub load_of : Header → ℕ → ℕ → Tabled → Tabled
 load_of h k x s =
     cond (ltb (k + 1) h.n)
-    (tabled (with_transfer (Load h (k + 1)) s.words) (desk s.desk.tables (set s.desk.load k x) s.desk.presets))
-    (load_judged h (set s.desk.load k x) (with_transfer Idle s.words) s.desk.tables s.desk.presets)
-
--- a preset is stored or fetched: of the tables its own alone may change
-unfoldable pub preset_desk : Way → Table → ℕ → Desk → Desk
-preset_desk y t n d =
-    let m : Moved = preset_moved y t n (words_of t d.tables) d.presets in
-    desk (with_table t m.table d.tables) d.load m.presets
-
--- request No. 6: "each with one data word, the preset number 0 to 3"; "a number over 3 sets message error and changes nothing else", and
--- either way the message is over
-unfoldable pub preset_of : Way → Table → ℕ → Tabled → Tabled
-preset_of y t x s =
-    cond (is_preset x)
-    (tabled (with_transfer Idle s.words) (preset_desk y t x s.desk))
-    (tabled (wrong_way s.words) s.desk)
+    (tabled (with_transfer (Load h (k + 1)) s.words) (desk s.desk.tables (set s.desk.load k x)))
+    (load_judged h (set s.desk.load k x) (with_transfer Idle s.words) s.desk.tables)
 
 -- by the open transfer: the word after command 1 is the next read address
 unfoldable pub word_taken : Transfer → ℕ → Tabled → Tabled
@@ -200,7 +169,6 @@ word_taken Idle x s = tabled (wrong_way s.words) s.desk
 word_taken Address x s = tabled (with_given (At x) (with_transfer Idle s.words)) s.desk
 word_taken (Load h k) x s = load_of h k x s
 word_taken (Read h k at) x s = tabled (wrong_way s.words) s.desk
-word_taken (Preset y t) x s = preset_of y t x s
 
 -- a data word written goes to the open transfer
 unfoldable pub data_in_of : ℕ → Tabled → Tabled
@@ -225,7 +193,6 @@ unfoldable pub word_given : Transfer → Words → Three → Answered
 word_given Idle w s = answer 0 (wrong_way w)
 word_given Address w s = answer 0 (wrong_way w)
 word_given (Load h k) w s = answer 0 (wrong_way w)
-word_given (Preset y t) w s = answer 0 (wrong_way w)
 word_given (Read h k at) w s = answer (read_word h at (words_of h.table s) k) (with_transfer (read_next h k at) w)
 
 -- a data word read comes from the open transfer

@@ -1,6 +1,6 @@
 // What is judged before a call: the bounds of the state, one by one, and the sizes of the tables.
 ghost use Rattle.std.specs.Prelude.{◌≡◌, ◌&&◌, not, ltb};
-ghost use Rattle.presets.specs.Tables.{three, tables_sized};
+ghost use Rattle.tables.specs.Tables.{three, tables_sized};
 ghost use Rattle.orders.specs.Command.{length_allowed};
 ghost use Rattle.tables.specs.Port.{is_open};
 ghost use Rattle.tables.specs.Bounds.{sound_transfer, sound_words};
@@ -22,7 +22,6 @@ pub fn idle(t: Transfer) -> bool
             k: _,
             start: _,
         } => false,
-        Transfer::Preset { way: _, table: _ } => false,
     }
 }
 
@@ -49,7 +48,6 @@ fn transfer_sound(t: Transfer) -> bool
             }
             within(header, start as u16)
         }
-        Transfer::Preset { way: _, table: _ } => true,
     }
 }
 

@@ -1,6 +1,6 @@
 // The state with one field changed.
 ghost use Rattle.std.specs.Prelude.{◌≡◌};
-ghost use Rattle.tables.specs.Places.{read_place, with_read_place};
+ghost use Rattle.tables.specs.Tables.{read_place, with_read_place};
 ghost use Rattle.tables.specs.Port.{with_error, with_transfer, with_given, restarted};
 
 use crate::{Given, Places, Table, Transfer, Words};
@@ -29,11 +29,10 @@ pub fn with_transfer(w: Words, transfer: Transfer) -> Words
 pub fn with_given(w: Words, given: Given) -> Words
     ensures { result ≡ with_given given w }
 {
-    let error = w.error;
     let transfer = w.transfer;
     let places = w.places;
     Words {
-        error,
+        error: w.error,
         transfer,
         places,
         given,

@@ -1,6 +1,6 @@
 // Reads: where one starts, its words, and what it moves.
 ghost use Rattle.std.specs.Prelude.{◌≡◌, ◌+◌, ◌<◌, ◌≤◌, length};
-ghost use Rattle.presets.specs.Tables.{table_size, three, words_of};
+ghost use Rattle.tables.specs.Tables.{table_size, three, words_of};
 ghost use Rattle.tables.specs.Port.{data_count, begins_at, read_opened_at, read_opened, read_word, read_next};
 
 use crate::changes::{place, with_error, with_place};

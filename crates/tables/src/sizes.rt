@@ -1,10 +1,21 @@
-// The numbers of the tables, and how far a transfer reaches.
+// The sizes and numbers of the tables, and how far a transfer reaches.
 ghost use Rattle.std.specs.Prelude.{◌≡◌};
+ghost use Rattle.tables.specs.Tables.{table_size};
 ghost use Rattle.orders.specs.Command.{table_number};
 ghost use Rattle.tables.specs.Port.{data_count, fits};
 
 use crate::{Header, Table};
-use presets::size;
+
+// In words.
+pub fn size(table: Table) -> u32
+    ensures { result ≡ table_size table }
+{
+    match table {
+        Table::Five => 64,
+        Table::Six => 128,
+        Table::Seven => 64,
+    }
+}
 
 pub fn number(table: Table) -> u16
     ensures { result ≡ table_number table }

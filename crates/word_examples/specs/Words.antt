@@ -2,7 +2,7 @@
 -- Assumes nothing.
 use Rattle.std.specs.Prelude.{ℕ, ◌*◌, replicate}
 use mathlib.Core.List.{List, [], ◌∷◌, ◌++◌, map, flatten}
-use Rattle.presets.specs.Tables.{Three, listed}
+use Rattle.tables.specs.Tables.{Three, listed}
 use Rattle.rules.specs.Families.{status}
 use Rattle.rules.specs.World.{World, Call, word, Told, step, final, tells}
 use Rattle.examples.specs.Shown.{just_initialised, number_in, order, loading, reading, load, read, ComputedLine, line, AsExpected}
@@ -51,14 +51,14 @@ words w x y z =
     ∷ line ((tables_from w (order 0x8A05 ++ loading (5 ∷ 63 ∷ 2 ∷ x ∷ y ∷ []))).five ++ status_from w (order 0x8A05 ++ loading (5 ∷ 63 ∷ 2 ∷ x ∷ y ∷ []))) (replicate 64 0 ++ (2 ∷ []))
     ∷ []
 
--- and what each word closes and sets
+-- and what each word closes, keeps and sets
 abbrev pub closings : World → ℕ → List ComputedLine
 closings w x =
     -- "word 1 right, word 3 right", all of each word; and all of an address, 0103
     line ((tables_from w (load 0x105 63 1 x)).five ++ status_from w (load 0x105 63 1 x)) (replicate 64 0 ++ (2 ∷ []))
     ∷ line ((tables_from w (load 5 63 0x101 x)).five ++ status_from w (load 5 63 0x101 x)) (replicate 64 0 ++ (2 ∷ []))
     ∷ line (words_from w (order 0x8201 ++ loading (0x103 ∷ []) ++ order 0xCA04 ++ shows)) (2 ∷ [])
-    -- "with no transfer that way sets message error, closes any other transfer": none open, an address, a load, a read
+    -- "with no transfer that way sets message error and closes any other transfer": none open, an address, a load, a read
     ∷ line
     (words_from w (loading (7 ∷ []) ++ shows ++ reading 1 ++ shows ++ order 0x8201 ++ reading 1 ++ shows ++ order 0x8000 ++ shows))
     (2 ∷ 0 ∷ 2 ∷ 0 ∷ 2 ∷ 0 ∷ [])
@@ -68,13 +68,8 @@ closings w x =
     -- "tables to their starts, read places 0, no address given": no error, but where a read is cut, which is then closed
     ∷ line (words_from w (read ++ order 0x8201 ++ loading (3 ∷ []) ++ order 0x0001 ++ shows ++ read)) (5 ∷ 0 ∷ 1 ∷ 0 ∷ 0 ∷ 5 ∷ 0 ∷ 1 ∷ 0 ∷ [])
     ∷ line (words_from w (order 0xCA04 ++ order 0x0001 ++ shows ++ reading 1 ++ shows)) (2 ∷ 0 ∷ 2 ∷ [])
-    ∷ []
-
--- and what it leaves as it was
-abbrev pub keepings : World → ℕ → List ComputedLine
-keepings w x =
     -- a word that is not accepted closes, and keeps tables, places and a given address
-    line (words_from w (order 0xCA04 ++ order 0x0000 ++ shows ++ reading 1 ++ shows)) (2 ∷ 0 ∷ 2 ∷ [])
+    ∷ line (words_from w (order 0xCA04 ++ order 0x0000 ++ shows ++ reading 1 ++ shows)) (2 ∷ 0 ∷ 2 ∷ [])
     ∷ line (tables_from w (load 5 63 1 x ++ order 0x0000)).five (replicate 63 0 ++ (x ∷ []))
     ∷ line (words_from w (load 5 3 1 x ++ order 0x8201 ++ loading (3 ∷ []) ++ order 0x0000 ++ shows ++ read)) (2 ∷ 5 ∷ 3 ∷ 1 ∷ x ∷ [])
     -- "used up by an accepted read" alone: kept by a load, by another 8201 that is cut, by a read that would pass the end
@@ -88,10 +83,9 @@ keepings w x =
     ∷ line (tables_from w (load 5 63 1 x ++ off ++ order 0x0001)).five (replicate 63 0 ++ (x ∷ []))
     ∷ []
 
-pub record AllTables (x y z : ℕ) : Type 0 where
+pub record BothTables (x y z : ℕ) : Type 0 where
   pub words : AsExpected (words just_initialised x y z)
   pub closings : AsExpected (closings just_initialised x)
-  pub keepings : AsExpected (keepings just_initialised x)
 
 abbrev pub WordsComputed : Type 0
-WordsComputed = (x y z : ℕ) → AllTables x y z
+WordsComputed = (x y z : ℕ) → BothTables x y z

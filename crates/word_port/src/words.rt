@@ -1,11 +1,10 @@
 // The table word port: command word, data words in and out, status word. Only the words of the pod can change.
 ghost use Rattle.std.specs.Prelude.{◌≡◌, List, [], ◌∷◌, ℕ};
 ghost use Rattle.rows.specs.Rows.{out};
-ghost use Rattle.presets.specs.Tables.{three};
-ghost use Rattle.presets.specs.Presets.{Presets, presets};
+ghost use Rattle.tables.specs.Tables.{three};
 ghost use Rattle.tables.specs.Port.{Desk, desk};
 ghost use Rattle.rules.specs.State.{with_words, sound_pod};
-ghost use Rattle.rules.specs.Refusals.{answer_said, tables_row, presets_row, state_row, marks_row};
+ghost use Rattle.rules.specs.Refusals.{answer_said, tables_row, state_row};
 ghost use Rattle.rules.specs.Families.{command, data_in, data_out, status};
 ghost use Rattle.rules.specs.Calls.{word_call};
 ghost use Rattle.gates.specs.Gates.{Gated};
@@ -14,7 +13,7 @@ use commands::sound;
 use gates::Gate;
 use rules::{Answer, Pod, Refusal, Worded};
 
-// The rows of a table word that is lent the tables alone, of a pod whose bounds were judged: the verdict is handed in, and not the pod.
+// The rows of every table word that is lent the tables, of a pod whose bounds were judged: the verdict is handed in, and not the pod.
 fn word_gate(ok: bool, five: &[u16], six: &[u16], seven: &[u16]) -> Gate
     ensures { (p : Pod) → ok ≡ sound_pod p → Gated result (tables_row (three five.now six.now seven.now) ∷ state_row p ∷ []) }
 {
@@ -27,19 +26,6 @@ fn word_gate(ok: bool, five: &[u16], six: &[u16], seven: &[u16]) -> Gate
     Gate::Open
 }
 
-// The rows of the data word in, which is lent the presets too. Each row is one test, with no branch inside.
-fn data_gate(ok: bool, five: &[u16], six: &[u16], seven: &[u16], kept: &[u16], marks: &[u8]) -> Gate
-    ensures { (p : Pod) → ok ≡ sound_pod p → Gated result (presets_row (three five.now six.now seven.now) (presets kept.now marks.now) ∷ marks_row p (presets kept.now marks.now) ∷ []) }
-{
-    if !(tables::sized(five, six, seven) & presets::sized(kept, marks)) {
-        return Gate::Shut(Refusal::Size);
-    }
-    if !(ok & presets::marks_right(marks)) {
-        return Gate::Shut(Refusal::State);
-    }
-    Gate::Open
-}
-
 pub fn command_word(
     pod: Pod,
     word: u16,
@@ -47,7 +33,7 @@ pub fn command_word(
     six: &mut [u16],
     seven: &mut [u16],
 ) -> Worded
-    ensures { (l : List ℕ) (s : Presets) → out (answer_said result.answer) (with_words result.words pod) (desk (three five.new six.new seven.new) l s) ≡ word_call (command word) (desk (three five.old six.old seven.old) l s) pod }
+    ensures { (l : List ℕ) → out (answer_said result.answer) (with_words result.words pod) (desk (three five.new six.new seven.new) l) ≡ word_call (command word) (desk (three five.old six.old seven.old) l) pod }
 {
     let words = pod.words;
     let gate = word_gate(sound(pod), five, six, seven);
@@ -58,7 +44,7 @@ pub fn command_word(
         },
         Gate::Open => Worded {
             answer: Answer::Done,
-            words: table_words::command(words, pod.initialised, word, five, six, seven),
+            words: tables::command(words, pod.initialised, word, five, six, seven),
         },
     }
 }
@@ -70,13 +56,11 @@ pub fn data_in(
     five: &mut [u16],
     six: &mut [u16],
     seven: &mut [u16],
-    kept: &mut [u16],
-    marks: &mut [u8],
 ) -> Worded
-    ensures { out (answer_said result.answer) (with_words result.words pod) (desk (three five.new six.new seven.new) load.new (presets kept.new marks.new)) ≡ word_call (data_in word) (desk (three five.old six.old seven.old) load.old (presets kept.old marks.old)) pod }
+    ensures { out (answer_said result.answer) (with_words result.words pod) (desk (three five.new six.new seven.new) load.new) ≡ word_call (data_in word) (desk (three five.old six.old seven.old) load.old) pod }
 {
     let words = pod.words;
-    let gate = data_gate(sound(pod), five, six, seven, kept, marks);
+    let gate = word_gate(sound(pod), five, six, seven);
     match gate {
         Gate::Shut(why) => Worded {
             answer: Answer::Refused(why),
@@ -84,13 +68,13 @@ pub fn data_in(
         },
         Gate::Open => Worded {
             answer: Answer::Done,
-            words: table_words::data_in(words, word, load, five, six, seven, kept, marks),
+            words: tables::data_in(words, word, load, five, six, seven),
         },
     }
 }
 
 pub fn data_out(pod: Pod, five: &[u16], six: &[u16], seven: &[u16]) -> Worded
-    ensures { (l : List ℕ) (s : Presets) → out (answer_said result.answer) (with_words result.words pod) (desk (three five.now six.now seven.now) l s) ≡ word_call data_out (desk (three five.now six.now seven.now) l s) pod }
+    ensures { (l : List ℕ) → out (answer_said result.answer) (with_words result.words pod) (desk (three five.now six.now seven.now) l) ≡ word_call data_out (desk (three five.now six.now seven.now) l) pod }
 {
     let words = pod.words;
     let gate = word_gate(sound(pod), five, six, seven);
@@ -100,7 +84,7 @@ pub fn data_out(pod: Pod, five: &[u16], six: &[u16], seven: &[u16]) -> Worded
             words,
         },
         Gate::Open => {
-            let out = table_words::data_out(words, five, six, seven);
+            let out = tables::data_out(words, five, six, seven);
             let next = out.words;
             Worded {
                 answer: Answer::Word(out.word),
@@ -120,7 +104,7 @@ pub fn status_word(pod: Pod) -> Worded
             words,
         };
     }
-    let out = table_words::status(words);
+    let out = tables::status(words);
     let next = out.words;
     Worded {
         answer: Answer::Word(out.word),

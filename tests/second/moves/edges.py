@@ -8,7 +8,6 @@ from collections import namedtuple
 
 from ports.bounds import BOUNDS
 from ports.params import ASKED, PLACES, ROWS, missing_of
-from ports.presets import ORDERS
 from ports.sizes import CAPACITY, NAMES, SIZES
 
 Edge = namedtuple("Edge", "bound inside outside")
@@ -84,7 +83,7 @@ def asleep():
     for code in (145, 148, 149, 150):
         parts = ["transfer -1", "exchange %d" % code]
         yield Edge("exchange while not initialised", parts + ["initialised 1"], parts + ["initialised 0"])
-    for numbers_of in ("1 0 1 0 0", "5 0 4 0 0", "6 1 4 0 0", *("%d 0 1 0 0" % command for command in ORDERS)):
+    for numbers_of in ("1 0 1 0 0", "5 0 4 0 0", "6 1 4 0 0"):
         parts = ["exchange -1", "transfer " + numbers_of]
         yield Edge("transfer while not initialised", parts + ["initialised 1"], parts + ["initialised 0"])
     parts = ["exchange -1", "transfer -1"]

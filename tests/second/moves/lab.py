@@ -3,7 +3,6 @@
 from ports.bounds import broken
 from ports.lab import PARTS
 from ports.params import ROWS
-from ports.presets import ORDERS
 from ports.refusal import RIGHT
 from ports.sizes import CAPACITY, ORDINARY, PRIORITY, SIZES
 
@@ -43,19 +42,14 @@ def open_address(s):
     words.say_command(s, words.command_word(1, 1))
 
 
-def open_preset(s):
-    """A command word that asks for the number of a preset."""
-    words.say_command(s, words.command_word(s.rng.choice(tuple(ORDERS)), 1))
-
-
 def word_in(s):
-    """The next word of an open load, most often right, a preset's number, or any."""
+    """The next word of an open load, most often right, or any."""
     held = s.pod.transfer
     if held and held.kind == "load" and s.rng.random() < 0.8:
         right = (held.table, s.rng.randint(0, SIZES[held.table] - 1), held.n - 3)
         words.say_word(s, right[len(held.words)] if len(held.words) < 3 else s.rng.getrandbits(16))
     else:
-        words.say_word(s, s.rng.choice((0, 1, 2, 3, 4, 5, 63, 64, 127, 0xFFFF, s.rng.getrandbits(16))))
+        words.say_word(s, s.rng.choice((0, 5, 63, 64, 127, 0xFFFF, s.rng.getrandbits(16))))
 
 
 def word_out(s):
@@ -82,8 +76,7 @@ CALLS = {
                packets.write, packets.read, receive, receive, right_ack, right_ack, packets.acknowledge,
                packets.damaged, packets.wrong_length, packets.shutdown, packets.empty, packets.unknown),
     "deadline": (bench.deadline,), "put p": (put_to(PRIORITY),), "put o": (put_to(ORDINARY),),
-    "command word": (words.stop, words.starts, words.bad_command, open_load, open_read, open_read, open_address,
-                     open_preset),
+    "command word": (words.stop, words.starts, words.bad_command, open_load, open_read, open_read, open_address),
     "data word in": (word_in,), "data word out": (word_out,), "status word": (words.status_word,),
     "samples": (bench.samples, bench.bad_samples), "pipe byte": (bench.one_pipe_byte,),
     "pipe timeout": (bench.timeout,), "packet out": (output.packet, output.packet, output.wrong),
@@ -150,7 +143,7 @@ def transfer(rng):
     table, n = rng.choice((5, 6, 7)), rng.choice((4, 4, words.some_n(rng)))
     along = rng.choice((0, 0, n - 1, n - 1, rng.randrange(n)))
     start = rng.choice((0, SIZES[table] - (n - 3), rng.randint(0, SIZES[table] - (n - 3))))
-    numbers = rng.choice(("-1", "1 0 1 0 0", "%d 0 1 0 0" % rng.choice(tuple(ORDERS)), "%d 0 %d %d 0" % (table, n, along),
+    numbers = rng.choice(("-1", "1 0 1 0 0", "%d 0 %d %d 0" % (table, n, along),
                           "%d 1 %d %d %d" % (table, n, along, start)))
     return ["initialised 1", "transfer " + numbers]
 
@@ -284,8 +277,7 @@ def out_of_range(s):
     can't be written down."""
     name = s.rng.choice(tuple(PARTS))
     tail = s.rng.choice(("", "0 0", "1 2 3 4 5", "00000000000", 10 ** 10, "0" * s.rng.choice((11, 300, 70000))))
-    transfer_tail = s.rng.choice(("5 0 4 0 1", "5 2 4 0 0", "1 0 1 1 0", "6 1 256 0 0", "4 0 4 0 0", "5 0 4 0", "-2",
-                                  "%d %s" % (s.rng.choice(tuple(ORDERS)), s.rng.choice(("1 1 0 0", "0 2 0 0", "0 1 0 1")))))
+    transfer_tail = s.rng.choice(("5 0 4 0 1", "5 2 4 0 0", "1 0 1 1 0", "6 1 256 0 0", "4 0 4 0 0", "5 0 4 0", "-2"))
     line = "X %s %s" % s.rng.choice(((name, tail), (name + "0", 1), ("transfer", transfer_tail)))
     s.rng.choice((lambda s: just_out(s, name), lambda s: s.say(line.encode()),
                   lambda s: s.say(s.rng.choice((b"L 4 64", b"L q 1", b"L rooms 9")))))(s)

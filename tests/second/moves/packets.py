@@ -159,9 +159,9 @@ def fetch(s):
 def follow(s, code):
     """Most often the right acknowledgement; else another end of the exchange."""
     chance = s.rng.random()
-    if chance < 0.53:
+    if chance < 0.56:
         send(s, bytes((code, 1, 0x7E)))
-    elif chance < 0.60:
+    elif chance < 0.64:
         send(s, bytes((code, 9, s.rng.randint(0, 255))))
     elif chance < 0.73:
         send(s, bytes((s.rng.randint(0x90, 0x9F),)) + s.rng.choice((b"\x01\x7E", b"\x09\x7E")))

@@ -1,6 +1,5 @@
 """Moves on the word port."""
 
-from ports.presets import ORDERS
 from ports.sizes import SIZES
 
 READ = 0x4000
@@ -186,7 +185,7 @@ def bad_command(s):
         command_word(0, rng.choice((0, 1, 2)), READ),
         command_word(1, rng.choice((0, 2, 257, 511))),
         command_word(1, rng.choice((0, 1)), READ),
-        command_word(rng.choice((2, 3, 4, 8, 9, 13, 17, 31)), rng.choice((1, 4, 64)), rng.choice((0, READ))),
+        command_word(rng.choice((2, 3, 4, 8, 13, 31)), rng.choice((1, 4, 64)), rng.choice((0, READ))),
         command_word(table, rng.choice((0, 1, 2, 3)), rng.choice((0, READ))),
         command_word(table, rng.choice((65, 66, 68, 128, 260, 511)), rng.choice((0, READ))),
         rng.getrandbits(16))))
@@ -194,8 +193,7 @@ def bad_command(s):
 
 def twin(s):
     """The twin, in bit 15, of a command word that is accepted, between two status words: it alone can have set the error."""
-    kind = s.rng.choice(((0, 0), (0, 1), (1, 1), (s.rng.choice(tuple(ORDERS)), 1),
-                         (s.rng.choice((5, 6, 7)), some_n(s.rng), s.rng.choice((0, READ)))))
+    kind = s.rng.choice(((0, 0), (0, 1), (1, 1), (s.rng.choice((5, 6, 7)), some_n(s.rng), s.rng.choice((0, READ)))))
     status_word(s)
     say_command(s, command_word(*kind) ^ 0x8000)
     status_word(s)

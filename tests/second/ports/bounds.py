@@ -82,10 +82,9 @@ def places(pod):
 
 def transfer(pod):
     """'an open transfer 0 to N-1 words along, with N as its command allows, and an open read
-    within its table'. A transfer that waits for an address or for the number of a preset has N 1 and
-    no word yet."""
+    within its table'. A transfer that waits for an address has N 1 and no word yet."""
     held = pod.transfer
-    if held is None or held.kind not in ("load", "read"):
+    if held is None or held.kind == "address":
         return
     name = "%s %d" % (held.kind, held.table)
     if held.n < 4:

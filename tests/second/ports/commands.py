@@ -62,7 +62,6 @@ class Commands:
         self.forget_transfer("initialise")
         self.count_forgotten("initialise")
         self.count_refilled("initialise")
-        self.count_outlived("initialise")
         self.power_on()
         self.initialised = True
         self.take_fields(body)
@@ -128,7 +127,6 @@ class Commands:
         self.count_unfilled("shutdown:")
         if self.output_timeouts:
             hit("shutdown: output timeouts kept")
-        self.count_outlived("shutdown")
         self.close_transfer("shutdown")
         self.initialised = False
         return done(code)

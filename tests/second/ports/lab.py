@@ -7,16 +7,16 @@ and `?` lines are no calls'.
 """
 
 import re
+import struct
 
 from .bounds import BOUNDS, LISTED, listed
 from .labels import declare, hit
 from .lines import console_line
+from .packets import crc
 from .params import ASKED, PLACES, ROWS
-from .presets import ORDERS
-from .refusal import KEPT, LENT, RIGHT
-from .sizes import MARKS, SIZES
-from .view import STORES, shown
-from .words import KINDS, Transfer
+from .refusal import LENT, RIGHT
+from .sizes import ORDINARY, PRIORITY, SIZES
+from .words import Transfer
 
 # 'Numbers are decimal, 1 to 10 digits, leading zeros allowed, with a leading `-` where they are
 # negative (`-0` is 0).'
@@ -25,6 +25,7 @@ SETS = re.compile(rb"X ([a-z0-9]+)((?:%s)+)" % NUMBER)
 LENDS = re.compile(rb"L ([a-z0-9]+)(%s)" % NUMBER)
 
 BYTE, BITS16, BITS32 = range(2 ** 8), range(2 ** 16), range(2 ** 32)
+STORES = (PRIORITY, ORDINARY)
 
 
 def whole(name, made=int):
@@ -58,13 +59,6 @@ def place(at):
     return change
 
 
-def preset_mark(at):
-    """Sets one of the twelve marks; the words of its preset stay."""
-    def change(pod, n):
-        pod.presets.marks[at] = n
-    return change
-
-
 def or_none(n):
     """-1 is none."""
     return None if n == -1 else n
@@ -94,8 +88,6 @@ for _at in range(PLACES):
     PARTS["missing%d" % _at] = (BYTE, place(_at))
 for _table in SIZES:
     PARTS["place%d" % _table] = (BYTE, one_of("places", _table))
-for _at in range(MARKS):
-    PARTS["mark%d" % _at] = (BYTE, preset_mark(_at))
 
 declare(*["lab X %s: %s" % (name, what) for name in [*PARTS, "transfer"] for what in ("set", "out of range")])
 declare(*["lab L %s: %s" % (thing, what) for thing in RIGHT for what in ("right", "under", "over", "too large")])
@@ -114,26 +106,13 @@ declare(*["lab %s: %s %s its size" % (call, thing, way) for call in LENT for thi
 declare(*["lab %s: %s" % (call, bound) for call in LENT if call != "power on"
           for bound in BOUNDS + ["more than one bound"]])
 declare(*["lab power on: %s, mended" % way for way in LISTED])
-# what a data word in, and it alone, is lent of the presets
-declare(*["lab data word in: mark %d" % at for at in range(MARKS)])
-declare(*["lab data word in: a mark, %s open" % kind for kind in ("nothing",) + KINDS])
-declare("lab data word in: a mark and a bound of the state", "lab data word in: a size before a mark")
-declare(*["lab %s: %s passed by" % (call, what) for call in LENT if call != "data word in"
-          for what in ["a mark over 1"] + [thing + " of another size" for thing in KEPT]])
-declare(*["lab fetch %d: words under a mark of 0" % table for table in SIZES])
-declare("lab X transfer: a preset's, with other numbers", *["lab X transfer: %d set" % command for command in ORDERS])
 
 
 def transfer_of(command, reading, n, along, start):
     """'`transfer` command reading N along start (1 0 1 0 0 waits for an address; a load's words
-    so far are 0, its start 0)'; 10 0 1 0 0, and 11, 12, 14, 15 or 16 in place of 10, waits for the
-    number of a preset; None for one that can't be written down."""
+    so far are 0, its start 0)'; None for one that can't be written down."""
     if (command, reading, n, along, start) == (1, 0, 1, 0, 0):
         return Transfer("address", None, 1)
-    if command in ORDERS:
-        right = (reading, n, along, start) == (0, 1, 0, 0)
-        hit("lab X transfer: %d set" % command if right else "lab X transfer: a preset's, with other numbers")
-        return Transfer(*ORDERS[command], 1) if right else None
     if command not in SIZES or reading > 1 or (reading == 0 and start != 0):
         return None
     transfer = Transfer("read" if reading else "load", command, n, start)
@@ -211,13 +190,60 @@ def line_l(pod, line):
     return b"L"
 
 
+def shown_transfer(transfer):
+    """'the transfer as five numbers as above (0 0 0 0 0 for none)'."""
+    if transfer is None:
+        return [0, 0, 0, 0, 0]
+    if transfer.kind == "address":
+        return [1, 0, 1, 0, 0]
+    return [transfer.table, int(transfer.kind == "read"), transfer.n, len(transfer.words), transfer.start]
+
+
+def shown_numbers(pod):
+    """'initialised, mode, flags, seconds, milliseconds, priority limit and remaining, memory
+    limit and remaining, poll; the twelve values; the twelve marks; the exchange (0 or its
+    code); message error; the transfer ..; the three places; the address or -1; oldest and
+    waiting of both stores; gathered; timeouts (all decimal)'."""
+    numbers = [int(pod.initialised), pod.mode, pod.flags, pod.seconds, pod.milliseconds]
+    numbers += [n for store in STORES for n in (pod.limit[store], pod.remaining[store])] + [pod.poll]
+    numbers += [pod.values[id] for id in ROWS] + [int(id in pod.written) for id in ROWS]
+    numbers += [pod.exchange or 0, int(pod.message_error)] + shown_transfer(pod.transfer)
+    numbers += [pod.places[table] for table in SIZES] + [-1 if pod.address is None else pod.address]
+    numbers += [n for store in STORES for n in (pod.oldest[store], pod.waiting[store])]
+    return numbers + [len(pod.gathered), pod.timeouts]
+
+
+def words_bytes(words):
+    """'words high byte first'."""
+    return struct.pack(">%dH" % len(words), *words)
+
+
+def shown_memory(pod):
+    """'the bytes gathered, .. the words of the open load so far (at most 64; FFFF where no load
+    is open), .. the priority store, the ordinary store, tables 5, 6 and 7 (words high byte
+    first)'. The CRC of no bytes is FFFF."""
+    load = pod.transfer.words if pod.transfer and pod.transfer.kind == "load" else []
+    return [pod.gathered, words_bytes(load[:64]), *(pod.memory[store] for store in STORES),
+            *(words_bytes(pod.tables[table]) for table in SIZES)]
+
+
+def shown_output(pod):
+    """Behind these: bytes in hand, output timeouts, and the bytes in hand, 8 at most."""
+    return [len(pod.hand), pod.output_timeouts], pod.hand[:8]
+
+
 def line_v(pod, line):
-    """'shows the state and the memory'."""
+    """'`V` and these, each after one space'."""
     if line != b"V":
         hit("lab V: malformed")
         return b"?"
     hit("lab V: shown")
-    return shown(pod)
+    counts, hand = shown_output(pod)
+    return b"V" + b"".join([b" %d" % n for n in shown_numbers(pod)]
+                           + [b" %04X" % crc(part) for part in shown_memory(pod)]
+                           + [b" %d" % n for n in counts] + [b" %04X" % crc(hand)]
+                           # behind all the rest, the eight places of missing ids
+                           + [b" %d" % id for id in pod.missing])
 
 
 LINES = {b"X": line_x, b"L": line_l, b"V": line_v}

@@ -9,20 +9,18 @@ or `console` leads to rows 1 to 3: their labels are declared with the lines of `
 
 from .bounds import broken, listed
 from .labels import declare, hit
-from .sizes import BLOCK, CAPACITY, LETTERS, MARKS, PRESET_WORDS, SIZES
+from .sizes import BLOCK, CAPACITY, LETTERS, SIZES
 
 # each thing that can be lent, and its right size: 'answer room under 260 bytes'
 TABLES = tuple(str(table) for table in SIZES)
 RIGHT = {"room": 260}
 RIGHT.update({letter: CAPACITY[store] * BLOCK for store, letter in LETTERS.items()})
 RIGHT.update(zip(TABLES, SIZES.values()))
-KEPT = ("presets", "marks")
-RIGHT.update(zip(KEPT, (PRESET_WORDS, MARKS)))
 
-# 'Each row applies only to calls that are lent the thing.' By request No. 6 a data word in is lent the presets too.
+# 'Each row applies only to calls that are lent the thing.'
 LENT = {
     "packet": ("room", "p", "o") + TABLES, "deadline": (), "put p": ("p",), "put o": ("o",),
-    "command word": TABLES, "data word in": TABLES + KEPT, "data word out": TABLES, "status word": (),
+    "command word": TABLES, "data word in": TABLES, "data word out": TABLES, "status word": (),
     "samples": (), "pipe byte": (), "pipe timeout": (), "packet out": (), "taken": (),
     "power on": TABLES,
 }
@@ -57,43 +55,13 @@ class Rows:
             way = "under" if self.sizes[thing] < RIGHT[thing] else "over"
             hit("lab %s: %s %s its size" % (call, thing, way))
         if wrong:
-            self.count_behind_sizes(lent)
             raise Refused(2)
         # power on is handed no state, so it mends a list too
         for name in listed(self) if call == "power on" else ():
             hit("lab power on: %s, mended" % name)
         outside = [] if call == "power on" else broken(self)
-        outside += self.marks_over() if "marks" in lent else []
         if outside:
             hit("lab %s: %s" % (call, outside[0] if len(outside) == 1 else "more than one bound"))
-            self.count_marks_over(lent, outside)
             raise Refused(3)
         if self.hand:
             hit(call + ": with bytes in hand")
-        self.count_not_looked_at(call, lent)
-
-    def marks_over(self):
-        """By request No. 6 'a mark over 1' is 'refusal 3', whatever is open."""
-        marks = self.presets.marks
-        return ["mark %d" % at for at, mark in enumerate(marks) if mark > 1] if max(marks) > 1 else []
-
-    def count_behind_sizes(self, lent):
-        """Whether a mark would be refused, were the sizes right."""
-        if "marks" in lent and self.marks_over():
-            hit("lab data word in: a size before a mark")
-
-    def count_marks_over(self, lent, outside):
-        """With what open a mark is refused, and whether a bound of the state is broken too."""
-        over = self.marks_over() if "marks" in lent else []
-        if over and over == outside:
-            hit("lab data word in: a mark, %s" % (self.transfer.kind + " open" if self.transfer else "nothing open"))
-        elif over:
-            hit("lab data word in: a mark and a bound of the state")
-
-    def count_not_looked_at(self, call, lent):
-        """What a call that is not lent the presets passes by."""
-        if "marks" not in lent and self.marks_over():
-            hit("lab %s: a mark over 1 passed by" % call)
-        for thing in KEPT:
-            if thing not in lent and self.sizes[thing] != RIGHT[thing]:
-                hit("lab %s: %s of another size passed by" % (call, thing))

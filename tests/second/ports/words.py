@@ -3,12 +3,12 @@
 from .labels import declare, hit
 from .sizes import SIZES
 
-KINDS = ("address", "load", "read", "store", "fetch")
+KINDS = ("address", "load", "read")
 
 declare("command: even ones", "command: not initialised", "command: stop",
         "command: tables to their starts", "command: tables to their starts, address given",
         "command: address", "command 0: reading", "command 0: N over 1", "command 1: reading",
-        "command 1: N not 1")
+        "command 1: N not 1", "command: unknown")
 declare(*["table %d: %s" % (table, what) for table in SIZES for what in (
     "load opened", "load with N under 4", "load with N over 64", "read with N under 4",
     "read with N over 64", "read at the read place", "read at the given address",
@@ -19,9 +19,10 @@ declare(*["table %d: %s" % (table, what % n) for table in SIZES
           for what in ("load of %d taken", "read of %d finished") for n in range(4, 65)])
 declare(*["%s cut by %s" % (kind, cause) for kind in KINDS for cause in (
     "a command word", "shutdown", "initialise", "power")])
-declare(*["%s cut by a data word out" % kind for kind in KINDS if kind != "read"])
-declare("read cut by a data word in", "data word in: nothing open", "data word out: nothing open", "address: given",
-        "address: given again over another", "status word: error", "status word: none")
+declare("read cut by a data word in", "load cut by a data word out",
+        "address cut by a data word out", "data word in: nothing open",
+        "data word out: nothing open", "address: given", "address: given again over another",
+        "status word: error", "status word: none")
 
 
 def tables_at_start():
@@ -90,7 +91,7 @@ class Words:
             return self.command_1(reading, n)
         if command in SIZES:
             return self.table_command(command, reading, n)
-        return self.preset_command(command, reading, n)
+        return self.mistake("command: unknown")
 
     def command_0(self, reading, n):
         """'command 0 writing, N 0 (stop: no more than closing a transfer) or 1 (tables to
@@ -160,8 +161,6 @@ class Words:
         self.transfer = None
         if transfer.kind == "load":
             return self.judge(transfer)
-        if transfer.kind != "address":
-            return self.preset_number(transfer, word)
         hit("address: given" if self.address is None else "address: given again over another")
         self.address = word
         return None

@@ -1,8 +1,8 @@
 """The stored session of `lab`: every line of X, L and V, every row at its edge, each kind of command
-word in both parities, the kept list through every write, every preset, and each bound of the state one inside and one
-outside with every call."""
+word in both parities, the kept list through every write, and each bound of the state one inside and one outside with
+every call."""
 
-from . import bounds, forms, lists, output, parity, presets, rows
+from . import bounds, forms, lists, output, parity, rows
 from .book import Book
 
 
@@ -12,6 +12,6 @@ def make():
     for part in (forms.names, forms.numbers, forms.transfers, forms.lent, bounds.kept_memory, bounds.free_parts,
                  output.handed, output.beside, output.counted, output.kept, output.set_by_hand,
                  lists.struck, lists.kept, lists.wrong, lists.one_mark, lists.set_by_hand,
-                 parity.twins, parity.written, *presets.PARTS, rows.sizes, rows.unused, rows.edges, rows.orders, bounds.bounds):
+                 parity.twins, rows.sizes, rows.unused, rows.edges, rows.orders, bounds.bounds):
         part(book)
     return book

@@ -4,9 +4,8 @@ equal."""
 from model import Pod
 from moves import bench, packets, words
 from moves.edges import lines
-from ports.lab import lab_line
+from ports.lab import lab_line, shown_memory, shown_numbers, shown_output
 from ports.packets import sealed
-from ports.view import shown_memory, shown_numbers, shown_output, shown_presets
 
 READ = words.READ
 FIELDS = packets.pack_fields(1, 0x1234, 5 << 10 | 500, (16, 9), (200, 150), 1000)
@@ -52,8 +51,8 @@ CALLS = {
     "D": [b"D"],
     "B": [put(letter, turn) for turn in range(1, 4) for letter in (b"p", b"o")],
     "C": [command(0, 0), command(0, 1), command(1, 1), command(5, 4), command(6, 4, READ), b"C 0000",
-          command(7, 64, READ), command(11, 1), command(16, 1)],
-    "W": [b"W 0005", b"W 0000", b"W FFFF", b"W 0003"],
+          command(7, 64, READ)],
+    "W": [b"W 0005", b"W 0000", b"W FFFF"],
     "R": [b"R"],
     "S": [b"S"],
     "A": [sampled()],
@@ -67,9 +66,7 @@ CALLS = {
 
 def state(pod):
     """All that V shows, whole."""
-    marks, words = shown_presets(pod)
-    return (shown_numbers(pod), [bytes(part) for part in shown_memory(pod)], shown_output(pod), list(pod.missing),
-            list(marks), words)
+    return shown_numbers(pod), [bytes(part) for part in shown_memory(pod)], shown_output(pod), list(pod.missing)
 
 
 class Book:

@@ -1,7 +1,6 @@
 """The lines X, L and V: names, numbers, ranges, and when an `L` ends."""
 
 from ports.lab import PARTS
-from ports.presets import ORDERS
 from ports.refusal import RIGHT
 
 from .book import awake, out, put
@@ -12,22 +11,19 @@ NO_NAMES = """
     millisecondss milliseconds0milliseconds second polls errors timeout exchanges addres transfers gather outs
     out0 ou outtimeout outtimeout0 outtimeoutss intimeouts
     missing missing8 missing9 missing10 missing00 missing01 missing07 missing7x missings missings0 missin0 Missing0
-    mark mark12 mark13 mark20 mark00 mark01 mark011 mark11x mark1x marks0 mar0 Mark0 preset preset0
-    room p o 5 6 7 presets marks V X""".split()
+    room p o 5 6 7 V X""".split()
 
 NO_LINES = (
     b"X|X |X mode|X mode |X  mode 1|X mode  1|X mode 1 | X mode 1|X mode 1 1|Xmode 1|X mode1|x mode 1|X mode +1|"
     b"X mode -|X mode --1|X mode 1-|X mode 0x1|X mode 1.0|X mode 1,0|X mode A|X\tmode 1|X mode\t1|X 1|X mode one|"
     b"X mode /|X mode :|X transfer|X written|X out|X out |X out 1 1|X out1|X out -|"
     b"X outtimeouts|X missing0|X missing0 |X missing7 1 2|X missing 0|X missing 0 1|X missing0 -|X missing0 +1|"
-    b"X missing0  1|X missing01|X missing0\t1|X missing-1 1|X mark0|X mark0 |X mark 0|X mark 0 1|X mark0 1 1|X mark01|"
-    b"X mark11|X mark11 -|X mark0 +1|X mark0  1|X mark-1 1|V |V 1|VV|v| V").split(b"|")
+    b"X missing0  1|X missing01|X missing0\t1|X missing-1 1|V |V 1|VV|v| V").split(b"|")
 
 NO_LENDS = (
     b"L|L |L room|L room |L 5|L  5 1|L 5  1|L 5 1 |L 5 64 64|L room -1|L room 00000000260|L room 9999999999|L 4 64|"
     b"L 8 64|L 05 64|L P 4096|L Room 260|L rooms 260|L q 1|L po 1|L mode 1|l room 260|Lroom 260|"
-    b"L room\t260|L presets|L marks|L presets |L marks 12 12|L presets -1|L marks -1|L preset 1024|L mark 12|L mark0 1|"
-    b"L Presets 1024|L marks0 12|L presets 2049|L marks 1037|L presets 4294967296|L marks 00000000012").split(b"|")
+    b"L room\t260").split(b"|")
 
 SPELLED = (
     b"seconds 0000000007|seconds 00000000008|seconds -0|seconds 4294967295|seconds 9999999999|seconds -0000000000|"
@@ -36,23 +32,17 @@ SPELLED = (
     b"exchange -0000000001|address 007|address -1|address -0|address -2|address -001|initialised 01|initialised -1|"
     b"gathered 9|gathered 08|gathered -0|out 10|out 009|out -0|out -1|out 0000000008|outtimeouts 0255|outtimeouts 256|"
     b"outtimeouts -0|outtimeouts 00000000015|missing0 0255|missing0 256|missing0 -0|missing0 -1|missing7 0000000007|"
-    b"missing7 00000000008|missing7 65536|missing3 4294967296|missing3 -255|missing3 9999999999|mark0 0255|mark0 256|"
-    b"mark0 -0|mark0 -1|mark11 0000000001|mark11 00000000002|mark10 65537|mark9 4294967296|mark1 2|mark1 0").split(b"|")
+    b"missing7 00000000008|missing7 65536|missing3 4294967296|missing3 -255|missing3 9999999999").split(b"|")
 
 TRANSFERS = (
     b"1 0 1 0 0|-1|01 -0 001 0000000000 0|-01|5 0 255 255 0|6 1 255 255 255|7 0 0 0 0|5 1 0 0 0|6 0 64 63 0|"
-    b"6 0 64 64 0|6 0 64 65 0|7 0 65 255 0|7 1 4 0 255|10 0 1 0 0|11 0 1 0 0|12 0 1 0 0|14 0 1 0 0|15 0 1 0 0|"
-    b"16 0 1 0 0|0000000010 -0 01 00 -0").split(b"|")
+    b"6 0 64 64 0|6 0 64 65 0|7 0 65 255 0|7 1 4 0 255").split(b"|")
 
 NO_TRANSFERS = (
     b"5 0 4 0 1|6 0 64 0 255|5 2 4 0 0|5 255 4 0 0|1 1 1 0 0|1 0 2 0 0|1 0 0 0 0|1 0 1 1 0|1 0 1 0 1|0 0 0 0 0|"
     b"0 0 1 0 0|2 0 4 0 0|4 1 4 0 0|8 0 4 0 0|133 0 4 0 0|255 1 4 0 0|256 0 4 0 0|261 0 4 0 0|5 256 4 0 0|"
     b"5 0 256 0 0|5 0 4 256 0|5 1 4 0 256|-5 0 4 0 0|5 -1 4 0 0|5 1 4 -1 0|5 1 4 0 -1|-1 -1 -1 -1 -1|0|1|-2|5|5 0|"
-    b"5 0 4|5 0 4 0|5 0 4 0 0 0|-1 0 0 0 0|-1 0|8 0 1 0 0|9 0 1 0 0|13 0 1 0 0|17 0 1 0 0|18 0 1 0 0|26 0 1 0 0|"
-    b"266 0 1 0 0|-10 0 1 0 0|10|10 0 1 0|10 0 1 0 0 0|16|16 0|14 0 4 0 0|14 1 4 0 0|12 0 255 255 255").split(b"|")
-# a preset's message has these numbers behind its command and no other
-NO_TRANSFERS += [b"%d %s" % (command, tail) for command in ORDERS
-                 for tail in (b"1 1 0 0", b"0 0 0 0", b"0 2 0 0", b"0 1 1 0", b"0 1 0 1")]
+    b"5 0 4|5 0 4 0|5 0 4 0 0 0|-1 0 0 0 0|-1 0").split(b"|")
 
 
 def names(book):
@@ -85,7 +75,7 @@ def numbers(book):
 
 def transfers(book):
     """'`transfer` -1, or `transfer` command reading N along start (1 0 1 0 0 waits for an address;
-    a load's words so far are 0, its start 0)'; and the messages of presets."""
+    a load's words so far are 0, its start 0)'."""
     for numbers_of in TRANSFERS:
         book.say(b"X transfer " + numbers_of)
         book.look()

@@ -7,7 +7,7 @@ import stored
 from model import console_line
 from ports.lab import lab_line
 
-from . import handing, judged, kept, lists, marks, parity, presets, struck, timeouts  # each names its own in WRONG
+from . import handing, judged, kept, lists, parity, struck, timeouts  # each names its own in WRONG
 from .named import LAB_ALONE, WRONG
 
 SESSIONS = 150

@@ -1,7 +1,6 @@
 """Wrong in how the ones of a command word are counted."""
 
 from model import Pod
-from ports.presets import ORDERS
 
 from .named import WRONG
 
@@ -17,7 +16,6 @@ JUDGED = {
     "either parity is accepted": lambda word: True,
     "either parity is accepted of a read": lambda word: ones(word) % 2 == 1 or word & 0x4000 != 0,
     "either parity is accepted of commands 6 and 7": lambda word: ones(word) % 2 == 1 or word >> 9 & 0x1F in (6, 7),
-    "either parity is accepted of presets": lambda word: ones(word) % 2 == 1 or word >> 9 & 0x1F in ORDERS,
     "8001 is taken for the starts": lambda word: ones(word) % 2 == 1 or word == 0x8001,
     "0201 is taken for an address": lambda word: ones(word) % 2 == 1 or word == 0x0201,
     "the ones of the low byte are counted": lambda word: ones(word & 0xFF) % 2 == 1,
@@ -25,7 +23,7 @@ JUDGED = {
     "more than seven ones are taken for even": lambda word: ones(word) in (1, 3, 5, 7),
 }
 # a word that is accepted can have a one at each of these
-for place in (0, 1, 2, 3, 4, 5, 6, 9, 10, 11, 12, 13, 14, 15):
+for place in (0, 1, 2, 3, 4, 5, 6, 9, 10, 11, 14, 15):
     JUDGED["bit %d is not counted" % place] = lambda word, bit=1 << place: ones(word & ~bit) % 2 == 1
 
 

@@ -4,8 +4,7 @@ use mathlib.Core.Path.{ap, ap₂, ◌∙◌}
 use mathlib.Core.Bool.{true, not}
 use mathlib.Core.List.{[]}
 use Rattle.tables.specs.declared.Words.{Words}
-use Rattle.presets.specs.Tables.{Three}
-use Rattle.presets.specs.Presets.{presets}
+use Rattle.tables.specs.Tables.{Three}
 use Rattle.tables.specs.Port.{Tabled, tabled, desk, command_of}
 use Rattle.show_tables.proofs.accepted.Statement.{statement}
 use Rattle.show_tables.proofs.accepted.Tie as tie
@@ -16,8 +15,8 @@ returns c =
     let w = m.before.before.before.before in
     let t = w.before.before.before.before in
     ap (λ (y : Tabled). not y.words.error)
-    (m.command.ensures [] (presets [] [])
-    ∙ ap₂ (λ (v : Words) (s : Three). command_of true t.before.before.before.before.args.word (tabled v (desk s [] (presets [] [])))) w.start-words.ensures t.to-starts.ensures)
+    (m.command.ensures []
+    ∙ ap₂ (λ (v : Words) (s : Three). command_of true t.before.before.before.before.args.word (tabled v (desk s []))) w.start-words.ensures t.to-starts.ensures)
 
 pub accepted_spec : {M : Type 1} → statement M
 accepted_spec =

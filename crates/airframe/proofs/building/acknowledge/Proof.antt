@@ -11,10 +11,10 @@ pub acknowledge_spec : {M : Type 1} → statement M
 unfolding acknowledgement_built built_said refusal_number
 acknowledge_spec =
     tie.close
-    (tie.spec (λ c κs. search rules) (λ c. outside _ _ _ (sym c.before.first_fits.ensures ∙ not-true _ c.if1.true))
-    (λ c. short _ _ _ (sym c.before.before.first_fits.ensures ∙ not-false _ c.before.if1.false) c.if2.true)
+    (tie.spec (λ c κs. search rules) (λ c. outside _ _ _ (sym c.before.first-fits.ensures ∙ not-true _ c.if1.true))
+    (λ c. short _ _ _ (sym c.before.before.first-fits.ensures ∙ not-false _ c.before.if1.false) c.if2.true)
     (λ c κs. search rules) (λ c. search rules)
     (λ c.
     let wrote = c.before.before in
     let roomy = wrote.before.before in
-    laid _ _ _ (sym roomy.before.before.first_fits.ensures ∙ not-false _ roomy.before.if1.false) roomy.if2.false _ _ wrote.write-form.ensures))
+    laid _ _ _ (sym roomy.before.before.first-fits.ensures ∙ not-false _ roomy.before.if1.false) roomy.if2.false _ _ wrote.write-form.ensures))

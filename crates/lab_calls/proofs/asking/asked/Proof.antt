@@ -9,12 +9,11 @@ use Rattle.lab_calls.proofs.asking.asked.Tie as tie
 returns : tie.Need-returns
 unfolding set_of
 returns c =
-    let e = c.before.before.before.before.before.before.before.before.before.set.ensures in
+    let e = c.before.before.before.before.before.before.before.set.ensures in
     let b = c.before.before.bare-line.ensures in (
       ap (λ (x : Left). x.changed.pod) e,
       c.before.before.before.before.before.sizes-set.ensures,
       ap (λ (x : Left). x.load) e,
-      ap (λ (x : Left). x.marks) e,
       bare-written _ _ _ _ _ _ c.before.before.before.letter-of.ensures b.0 b.1,
     )
 
@@ -26,6 +25,5 @@ asked_spec =
     (λ c κs. search rules)
     (λ c κs. search rules)
     (λ c κs. search rules)
-    (λ c. search rules)
     (λ c. search rules)
     returns)

@@ -1,7 +1,9 @@
 -- `lab_lines::asking::address_asked` meets its contract. Assumes nothing.
 use native.Mathlib.Omega.{arith}
 use borrow.Author.Rules.{rules}
-use mathlib.Core.Path.{sym, ◌∙◌}
+use mathlib.Core.Path.{◌≡◌, sym, ◌∙◌}
+use mathlib.Core.Bool.{true}
+use Rattle.lab_lines.specs.Ranges.{up_to}
 use Rattle.lab_lines.specs.Asked.{address_asked}
 use Rattle.lab_lines.proofs.Fives.{up_most}
 use Rattle.lab_lines.proofs.asking.address_asked.Statement.{statement}

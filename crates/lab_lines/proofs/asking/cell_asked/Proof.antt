@@ -1,6 +1,6 @@
 -- `lab_lines::asking::cell_asked` meets its contract. Assumes nothing.
 use borrow.Author.Rules.{rules}
-use Prim.Native.Nat.{ℕ}
+use Prim.Native.Nat.{ℕ, ◌+◌}
 use mathlib.Core.Path.{sym, ap, ◌∙◌}
 use Rattle.lab_lines.specs.Ranges.{up_to}
 use Rattle.lab_lines.specs.Asked.{cell_asked}

@@ -4,7 +4,7 @@ use native.Mathlib.Omega.{arith}
 use borrow.Author.Rules.{rules}
 use Rattle.orders.specs.declared.Table.{Table}
 use Rattle.orders.specs.declared.Table.TheVariants.{Five, Six, Seven}
-use Rattle.presets.specs.Tables.{table_size}
+use Rattle.tables.specs.Tables.{table_size}
 use Rattle.lab_lines.proofs.ranges.table_size.Statement.{statement}
 use Rattle.lab_lines.proofs.ranges.table_size.Tie as tie
 

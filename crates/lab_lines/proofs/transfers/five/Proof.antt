@@ -4,7 +4,7 @@ use borrow.Author.Rules.{rules}
 use mathlib.Core.Path.{sym, ◌∙◌}
 use Rattle.rows.proofs.Bool.{not-true, not-false}
 use Rattle.lab_lines.specs.Asked.{five_asked}
-use Rattle.lab_lines.proofs.Fives.{bytes-each}
+use Rattle.lab_lines.proofs.Fives.{bytes_each}
 use Rattle.lab_lines.proofs.transfers.five.Statement.{statement}
 use Rattle.lab_lines.proofs.transfers.five.Tie as tie
 
@@ -20,10 +20,10 @@ five_spec =
     (λ c. search rules)
     (λ c. search rules)
     (λ c. search rules)
-    (λ c. record { fits = omega (arith, (bytes-each c.before.before.before.before.before.before.before.before.args.t1 (sym c.before.before.before.before.before.before.before.all-bytes.ensures ∙ not-false c.before.before.before.before.before.before.if1.false)).0) })
-    (λ c. record { fits = omega (arith, (bytes-each c.before.before.before.before.before.before.before.before.before.args.t1 (sym c.before.before.before.before.before.before.before.before.all-bytes.ensures ∙ not-false c.before.before.before.before.before.before.before.if1.false)).1) })
-    (λ c. record { fits = omega (arith, (bytes-each c.before.before.before.before.before.before.before.before.before.before.args.t1 (sym c.before.before.before.before.before.before.before.before.before.all-bytes.ensures ∙ not-false c.before.before.before.before.before.before.before.before.if1.false)).2) })
-    (λ c. record { fits = omega (arith, (bytes-each c.before.before.before.before.before.before.before.before.before.before.before.args.t1 (sym c.before.before.before.before.before.before.before.before.before.before.all-bytes.ensures ∙ not-false c.before.before.before.before.before.before.before.before.before.if1.false)).3) })
-    (λ c. record { fits = omega (arith, (bytes-each c.before.before.before.before.before.before.before.before.before.before.before.before.args.t1 (sym c.before.before.before.before.before.before.before.before.before.before.before.all-bytes.ensures ∙ not-false c.before.before.before.before.before.before.before.before.before.before.if1.false)).4) })
+    (λ c. record { fits = omega (arith, (bytes_each c.before.before.before.before.before.before.before.before.args.t1 (sym c.before.before.before.before.before.before.before.all-bytes.ensures ∙ not-false c.before.before.before.before.before.before.if1.false)).0) })
+    (λ c. record { fits = omega (arith, (bytes_each c.before.before.before.before.before.before.before.before.before.args.t1 (sym c.before.before.before.before.before.before.before.before.all-bytes.ensures ∙ not-false c.before.before.before.before.before.before.before.if1.false)).1) })
+    (λ c. record { fits = omega (arith, (bytes_each c.before.before.before.before.before.before.before.before.before.before.args.t1 (sym c.before.before.before.before.before.before.before.before.before.all-bytes.ensures ∙ not-false c.before.before.before.before.before.before.before.before.if1.false)).2) })
+    (λ c. record { fits = omega (arith, (bytes_each c.before.before.before.before.before.before.before.before.before.before.before.args.t1 (sym c.before.before.before.before.before.before.before.before.before.before.all-bytes.ensures ∙ not-false c.before.before.before.before.before.before.before.before.before.if1.false)).3) })
+    (λ c. record { fits = omega (arith, (bytes_each c.before.before.before.before.before.before.before.before.before.before.before.before.args.t1 (sym c.before.before.before.before.before.before.before.before.before.before.before.all-bytes.ensures ∙ not-false c.before.before.before.before.before.before.before.before.before.before.if1.false)).4) })
     (λ c κs. search rules)
     (λ c. rw (sym c.before.before.before.before.before.before.before.before.before.before.before.before.all-bytes.ensures ∙ not-false c.before.before.before.before.before.before.before.before.before.before.before.if1.false) c.transfer-of.ensures))

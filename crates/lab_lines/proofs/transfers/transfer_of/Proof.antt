@@ -10,12 +10,11 @@ unfolding transfer_of
 transfer_of_spec =
     tie.close
     (tie.spec
+    (λ c. rw c.if1.true)
     (λ c κs. search rules)
-    (λ c. rw (eq-eqb _ 5 c.before.if1.true) c.moving.ensures)
+    (λ c. rw (c.before.before.if1.false, eq-eqb _ 5 c.before.if2.true) c.moving.ensures)
     (λ c κs. search rules)
-    (λ c. rw (ne_eqb _ 5 c.before.before.if1.false, eq-eqb _ 6 c.before.if2.true) c.moving2.ensures)
+    (λ c. rw (c.before.before.before.if1.false, ne_eqb _ 5 c.before.before.if2.false, eq-eqb _ 6 c.before.if3.true) c.moving2.ensures)
     (λ c κs. search rules)
-    (λ c. let e1 = c.before.before.before in rw (ne_eqb _ 5 e1.if1.false, ne_eqb _ 6 c.before.before.if2.false, eq-eqb _ 7 c.before.if3.true) c.moving3.ensures)
-    (λ c κs. search rules)
-    (λ c. let e2 = c.before.before.before in rw (ne_eqb _ 5 e2.before.if1.false, ne_eqb _ 6 e2.if2.false, ne_eqb _ 7 c.before.before.if3.false, c.before.if4.true) c.waiting-of.ensures)
-    (λ c. let e2 = c.before.before in rw (ne_eqb _ 5 e2.before.if1.false, ne_eqb _ 6 e2.if2.false, ne_eqb _ 7 c.before.if3.false, c.if4.false)))
+    (λ c. let e2 = c.before.before.before in rw (e2.before.if1.false, ne_eqb _ 5 e2.if2.false, ne_eqb _ 6 c.before.before.if3.false, eq-eqb _ 7 c.before.if4.true) c.moving3.ensures)
+    (λ c. let e2 = c.before.before in rw (e2.before.if1.false, ne_eqb _ 5 e2.if2.false, ne_eqb _ 6 c.before.if3.false, ne_eqb _ 7 c.if4.false)))

@@ -13,10 +13,10 @@ use Rattle.lab_names.proofs.names.named.Statement.{statement}
 use Rattle.lab_names.proofs.names.named.Tie as tie
 
 abbrev invariant-loop : tie.invariant-loop
-invariant-loop head text table i₀ i = (i ≤ 77) × (part_in text (drop i names) ≡ part_named head)
+invariant-loop head text table i₀ i = (i ≤ 63) × (part_in text (drop i names) ≡ part_named head)
 
 abbrev decreases-loop : tie.decreases-loop
-decreases-loop head text table i₀ i = 77 - i
+decreases-loop head text table i₀ i = 63 - i
 
 returns : tie.Need-returns invariant-loop decreases-loop
 unfolding part_named

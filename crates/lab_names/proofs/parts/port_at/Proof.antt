@@ -1,11 +1,11 @@
 -- `lab_names::parts::port_at` meets its contract. Assumes nothing.
-use Rattle.lab_names.specs.Names.{names, state_names, written_names, missing_names, mark_names, port_names}
+use Rattle.lab_names.specs.Names.{names, state_names, written_names, missing_names, port_names}
 use Rattle.rows.proofs.Bool.{last_of}
 use Rattle.lab_names.proofs.parts.port_at.Statement.{statement}
 use Rattle.lab_names.proofs.parts.port_at.Tie as tie
 
 pub port_at_spec : {M : Type 1} → statement M
-unfolding names state_names written_names missing_names mark_names port_names
+unfolding names state_names written_names missing_names port_names
 port_at_spec =
     tie.close
     (tie.spec

@@ -1,11 +1,11 @@
 -- `lab_names::parts::thing_at` meets its contract. Assumes nothing.
-use Rattle.lab_names.specs.Names.{names, state_names, written_names, missing_names, mark_names, port_names, value_names, other_names}
+use Rattle.lab_names.specs.Names.{names, state_names, written_names, missing_names, port_names, value_names, other_names}
 use Rattle.rows.proofs.Bool.{last_of}
 use Rattle.lab_names.proofs.parts.thing_at.Statement.{statement}
 use Rattle.lab_names.proofs.parts.thing_at.Tie as tie
 
 pub thing_at_spec : {M : Type 1} → statement M
-unfolding names state_names written_names missing_names mark_names port_names value_names other_names
+unfolding names state_names written_names missing_names port_names value_names other_names
 thing_at_spec =
     tie.close
     (tie.spec
@@ -14,6 +14,4 @@ thing_at_spec =
     (λ c. rw c.match.keys3)
     (λ c. rw c.match.keys4)
     (λ c. rw c.match.keys5)
-    (λ c. rw c.match.keys6)
-    (λ c. rw c.match.keys7)
-    (λ c. rw (last_of 7 c.before.args.i c.match.rest c.before.requires)))
+    (λ c. rw (last_of 5 c.before.args.i c.match.rest c.before.requires)))

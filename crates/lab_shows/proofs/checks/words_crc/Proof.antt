@@ -1,8 +1,9 @@
 -- `lab_shows::checks::words_crc` meets its contract: the bytes of the words so far. Assumes nothing.
-use Prim.Native.Nat.{◌≤◌, ◌-◌, ◌+◌, ◌*◌}
+use Prim.Native.Nat.{ℕ, ◌≤◌, ◌<◌, ◌-◌, ◌+◌, ◌*◌}
 use native.Mathlib.Omega.{arith}
 use borrow.Author.Rules.{rules}
 use mathlib.Core.Path.{◌≡◌, refl, sym, ap, ◌∙◌}
+use mathlib.Core.List.{List, [], ◌∷◌, ◌++◌}
 use lib.ListN.{length, take, get_or}
 use lib.Seq.{take_all, length-take-le, length-sets}
 use Rattle.crc.specs.Crc.{crc_of}
@@ -13,7 +14,7 @@ use Rattle.lab_shows.proofs.checks.words_crc.Statement.{statement}
 use Rattle.lab_shows.proofs.checks.words_crc.Tie as tie
 
 abbrev invariant-loop : tie.invariant-loop
-invariant-loop words bytes₀ i₀ bytes i = (i ≤ length words) × (length bytes ≡ 2048) × (take (2 * i) bytes ≡ word_bytes (take i words))
+invariant-loop words bytes₀ i₀ bytes i = (i ≤ length words) × (length bytes ≡ 256) × (take (2 * i) bytes ≡ word_bytes (take i words))
 
 abbrev decreases-loop : tie.decreases-loop
 decreases-loop words bytes₀ i₀ bytes i = length words - i

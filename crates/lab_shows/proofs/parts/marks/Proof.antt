@@ -1,5 +1,5 @@
 -- `lab_shows::parts::marks` meets its contract: the marks so far. Assumes nothing.
-use Prim.Native.Nat.{ℕ, ◌≤◌, ◌-◌}
+use Prim.Native.Nat.{ℕ, ◌≤◌, ◌<◌, ◌-◌, ◌+◌, ◌*◌}
 use native.Mathlib.Omega.{arith}
 use borrow.Author.Rules.{rules}
 use mathlib.Core.Path.{◌≡◌, refl, sym, ap, ◌∙◌}
@@ -49,6 +49,7 @@ marks_spec =
     (λ c. (search rules, refl, refl))
     (λ c. search rules)
     (λ c κs. search rules)
+    (λ c. search rules)
     (λ c. omega (arith, c.before.before.loop.invariant.1))
     (λ c. search rules)
     (λ c. search rules)

@@ -33,5 +33,4 @@ port_numbers_spec =
     (λ c. search rules)
     (λ c. search rules)
     (λ c. search rules)
-    (λ c. search rules)
     returns)

@@ -1,7 +1,7 @@
 -- `lab_shows::runs::put_address` meets its contract. Assumes nothing.
 use native.Mathlib.Omega.{arith}
 use borrow.Author.Rules.{rules}
-use mathlib.Core.Path.{refl}
+use mathlib.Core.Path.{◌≡◌, refl, sym, ap, ◌∙◌}
 use Rattle.decimals.proofs.Behind.{renamed}
 use Rattle.lab_shows.proofs.runs.put_address.Statement.{statement}
 use Rattle.lab_shows.proofs.runs.put_address.Tie as tie

@@ -2,7 +2,7 @@
 use Prim.Native.Nat.{ℕ, ◌≤◌, ◌-◌, ◌+◌, ◌*◌}
 use native.Mathlib.Omega.{arith}
 use borrow.Author.Rules.{rules}
-use mathlib.Core.Path.{ap, ◌∙◌}
+use mathlib.Core.Path.{◌≡◌, ap, ◌∙◌}
 use mathlib.Core.List.{List, [], ◌∷◌, ◌++◌}
 use lib.ListN.{length, drop, get_or}
 use lib.IntN.{pos}
@@ -13,25 +13,27 @@ use Rattle.lab_shows.proofs.runs.put_bytes.Statement.{statement}
 use Rattle.lab_shows.proofs.runs.put_bytes.Tie as tie
 
 abbrev invariant-loop : tie.invariant-loop
-invariant-loop out₀ at bytes to₀ i₀ out to i = (i ≤ length bytes) × Left (spelled (naturals bytes)) (spelled (naturals (drop i bytes))) (4 * i) at to out₀ out
+invariant-loop out₀ at list to₀ i₀ out to i = (i ≤ 8) × Left (spelled (naturals list)) (spelled (naturals (drop i list))) (4 * i) at to out₀ out
 
 abbrev decreases-loop : tie.decreases-loop
-decreases-loop out₀ at bytes to₀ i₀ out to i = length bytes - i
+decreases-loop out₀ at list to₀ i₀ out to i = 8 - i
 
 loop-again : tie.Need-loop-preserved invariant-loop decreases-loop
 loop-again c =
-    let l = c.before.before.before.before.before.before.loop in
-    let bs = c.before.before.before.before.before.before.before.before.before.args.bytes.now in
+    let l = c.before.before.before.before.before.loop in
+    let bs = c.before.before.before.before.before.before.before.args.t3 in
     let w = c.before.before.put_byte in
     let b = get_or bs l.i 0 in
+    let n : length bs ≡ 8 = search rules in
     let next = run_on bs l.i (omega arith) ∙ ap (λ (t : List ℕ). t ++ spelled (naturals (drop (l.i + 1) bs))) (one_spelled (pos b)) in
     (search rules, one_more _ _ (spelled (naturals (b ∷ []))) _ (4 * l.i) 4 _ _ _ _ _ _ _ next (omega arith) l.invariant.1 w.ensures)
 
 returns : tie.Need-returns invariant-loop decreases-loop
 returns c =
     let l = c.before.loop in
-    let bs = c.before.before.before.before.args.bytes.now in
-    whole _ _ (4 * l.i) _ _ _ _ _ (run_end bs l.i (omega arith)) (omega arith) l.invariant.1
+    let bs = c.before.before.before.args.t3 in
+    let n : length bs ≡ 8 = search rules in
+    whole _ _ (4 * l.i) 32 _ _ _ _ (run_end bs l.i (omega arith)) (omega arith) l.invariant.1
 
 pub put_bytes_spec : {M : Type 1} → statement M
 put_bytes_spec =
@@ -41,7 +43,7 @@ put_bytes_spec =
     decreases-loop
     (λ c. (search rules, none_left _ _ _))
     (λ c. search rules)
-    (λ c κs. let l = c.before.before.before.loop in omega (arith, l.invariant.1.short, l.invariant.1.size))
+    (λ c κs. let l = c.before.before.loop in omega (arith, l.invariant.1.short, l.invariant.1.size))
     (λ c. search rules)
     (λ c. search rules)
     loop-again

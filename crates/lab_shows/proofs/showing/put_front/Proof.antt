@@ -1,7 +1,7 @@
 -- `lab_shows::showing::put_front` meets its contract. Assumes nothing.
 use native.Mathlib.Omega.{arith}
 use borrow.Author.Rules.{rules}
-use mathlib.Core.Path.{◌≡◌, ap}
+use mathlib.Core.Path.{◌≡◌, refl, sym, ap, ◌∙◌}
 use mathlib.Core.List.{List, map}
 use Prim.Native.Nat.{ℕ}
 use lib.ListN.{length}
@@ -20,9 +20,9 @@ returns c =
     let g = c.before.before.before.before.before.before.before.before.before.before.before.before.before.before.marks in
     let m : length g.result ≡ 12 = search rules in
     let text : List ℕ → List ℕ = λ l. spelled (naturals l) in
-    renamed _ _ 522 522 _ _ _ _ (three-spelled (naturals (first_numbers p)) p.params.values (naturals (map bit_of p.params.written))) (omega arith)
-    (both _ _ 210 312 _ _ _ _ _ _ (renamed _ _ _ 210 _ _ _ _ (ap text f.ensures) (omega (arith, ap length f.ensures)) c.before.before.before.before.before.before.before.before.before.before.before.put-run.ensures)
-    (both _ _ 264 48 _ _ _ _ _ _ c.before.before.before.before.before.before.before.put-values.ensures (renamed _ _ _ 48 _ _ _ _ (ap text g.ensures) (omega arith) c.before.before.put-bytes.ensures)))
+    renamed _ _ 726 726 _ _ _ _ (three-spelled (naturals (first_numbers p)) p.params.values (naturals (map bit_of p.params.written))) (omega arith)
+    (both _ _ 210 516 _ _ _ _ _ _ (renamed _ _ _ 210 _ _ _ _ (ap text f.ensures) (omega (arith, ap length f.ensures)) c.before.before.before.before.before.before.before.before.before.before.before.put-run.ensures)
+    (both _ _ 264 252 _ _ _ _ _ _ c.before.before.before.before.before.before.before.put-values.ensures (renamed _ _ _ 252 _ _ _ _ (ap text g.ensures) (omega arith) c.before.before.put-run2.ensures)))
 
 pub put_front_spec : {M : Type 1} → statement M
 put_front_spec =

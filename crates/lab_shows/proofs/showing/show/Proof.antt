@@ -1,12 +1,11 @@
--- `lab_shows::showing::show` meets its contract: the letter, the numbers, the checks, and what stands behind them. Assumes nothing.
+-- `lab_shows::showing::show` meets its contract: the letter, the numbers, the checks, the output half, and the kept list with the line's end. Assumes nothing.
 use native.Mathlib.Omega.{arith}
 use borrow.Author.Rules.{rules}
 use mathlib.Core.Path.{◌≡◌, ap}
 use mathlib.Core.List.{List, [], ◌∷◌, ◌++◌}
 use Prim.Native.Nat.{ℕ}
 use lib.ListN.{length}
-use Rattle.presets.specs.Presets.{presets}
-use Rattle.lab_shows.specs.Shown.{spelled_words, front_numbers, back_numbers, shown_checks, shown_output, shown_list, shown_presets, shown_text, lent_of}
+use Rattle.lab_shows.specs.Shown.{spelled_words, front_numbers, back_numbers, shown_checks, shown_output, shown_list, shown_text, lent_of}
 use Rattle.decimals.proofs.Behind.{appended, both, renamed}
 use Rattle.lab_shows.proofs.Spell.{in_front}
 use Rattle.lab_shows.proofs.showing.show.Statement.{statement}
@@ -15,20 +14,18 @@ use Rattle.lab_shows.proofs.showing.show.Tie as tie
 returns : tie.Need-returns
 unfolding shown_text
 returns c =
-    let a = c.before.before.before.before.before.before.before.before.before.before.before.before.before.before.before.before.before.before.before.before.before.before.before.before.before.before.before.before.before.before.before.args in
-    let k = c.before.before.before.before.before.before.before.before.before.before.before.before.before.before.before.before.before.before.before.before.before.before.all-checks in
-    let v = c.before.before.before.before.before.before.before.before.before.before.before.before.before.before.before.before.before.before.before.append in
+    let a = c.before.before.before.before.before.before.before.before.before.before.before.before.before.before.before.before.before.before.before.before.before.before.before.before.before.before.before.before.before.before.before.before.before.args in
+    let k = c.before.before.before.before.before.before.before.before.before.before.before.before.before.before.before.before.before.before.before.before.before.before.before.before.before.before.all-checks in
+    let v = c.before.before.before.before.before.before.before.before.before.before.before.before.before.before.before.before.before.before.before.before.before.before.before.append in
     let n : length k.result ≡ 7 = search rules in
-    let kept = a.kept.now in
-    let marks = a.marks.now in
-    let lent = lent_of a.priority.now a.ordinary.now a.five.now a.six.now a.seven.now a.load.now kept marks in
-    let end : List ℕ = spelled_words (shown_checks a.pod lent) ++ (shown_output a.pod ++ (shown_list a.pod ++ shown_presets (presets kept marks))) in
-    renamed _ _ 1049 1200 _ _ _ _ (ap (λ (t : List ℕ). 86 ∷ t) (in_front (front_numbers a.pod) (back_numbers a.pod) end)) (omega arith)
-    (both (86 ∷ []) _ 1 1048 _ _ _ _ _ _ (appended (86 ∷ []) 1 _ _ _ _ v.ensures.0 v.ensures.1 (omega arith))
-    (both _ _ 522 526 _ _ _ _ _ _ c.before.before.before.before.before.before.before.before.before.before.before.before.before.before.before.put_front.ensures
-    (both _ _ 358 168 _ _ _ _ _ _ c.before.before.before.before.before.before.before.before.before.before.before.put_back.ensures
-    (both _ _ 35 133 _ _ _ _ _ _ (renamed _ _ _ 35 _ _ _ _ (ap spelled_words (k.ensures kept marks)) (omega arith) c.before.before.before.before.before.before.put_words.ensures)
-    c.before.before.put_behind.ensures))))
+    let lent = lent_of a.priority.now a.ordinary.now a.five.now a.six.now a.seven.now a.load.now in
+    let end : List ℕ = spelled_words (shown_checks a.pod lent) ++ (shown_output a.pod ++ shown_list a.pod) in
+    renamed _ _ 1200 1200 _ _ _ _ (ap (λ (t : List ℕ). 86 ∷ t) (in_front (front_numbers a.pod) (back_numbers a.pod) end)) (omega arith)
+    (both (86 ∷ []) _ 1 1199 _ _ _ _ _ _ (appended (86 ∷ []) 1 _ _ _ _ v.ensures.0 v.ensures.1 (omega arith))
+    (both _ _ 726 473 _ _ _ _ _ _ c.before.before.before.before.before.before.before.before.before.before.before.before.before.before.before.before.before.before.before.put_front.ensures
+    (both _ _ 358 115 _ _ _ _ _ _ c.before.before.before.before.before.before.before.before.before.before.before.before.before.before.before.put_back.ensures
+    (both _ _ 35 80 _ _ _ _ _ _ (renamed _ _ _ 35 _ _ _ _ (ap spelled_words k.ensures) (omega arith) c.before.before.before.before.before.before.before.before.before.before.put_words.ensures)
+    (both _ _ 47 33 _ _ _ _ _ _ c.before.before.before.before.before.before.put-output.ensures c.before.before.put-list.ensures)))))
 
 pub show_spec : {M : Type 1} → statement M
 show_spec =
@@ -41,6 +38,7 @@ show_spec =
     (λ c κs. search rules)
     (λ c. search rules)
     (λ c κs. search rules)
-    (λ c κs. search (rules, c.before.before.before.before.before.before.before.before.before.before.before.before.before.before.before.before.before.before.before.before.before.before.before.before.before.before.before.before.requires))
+    (λ c κs. search rules)
+    (λ c κs. search (rules, c.before.before.before.before.before.before.before.before.before.before.before.before.before.before.before.before.before.before.before.before.before.before.before.before.before.before.before.before.before.before.requires))
     (λ c. search rules)
     returns)

@@ -18,13 +18,13 @@ use Rattle.line_answers.proofs.answering.gather.Statement.{statement}
 use Rattle.line_answers.proofs.answering.gather.Tie as tie
 
 abbrev invariant-loop : tie.invariant-loop
-invariant-loop program piece line₀ bytes₀ words₀ room₀ priority₀ ordinary₀ five₀ six₀ seven₀ load₀ kept₀ marks₀ out₀ cursor₀ between₀ line bytes words room priority ordinary five six seven load kept marks out cursor between =
-    (Turns (AnswersText program) piece (standing (record { cursor = cursor₀; between = between₀ }) line₀ (memory room₀ priority₀ ordinary₀ five₀ six₀ seven₀ load₀ kept₀ marks₀) out₀)
-    (standing (record { cursor = cursor; between = between }) line (memory room priority ordinary five six seven load kept marks) out))
+invariant-loop program piece line₀ bytes₀ words₀ room₀ priority₀ ordinary₀ five₀ six₀ seven₀ load₀ out₀ cursor₀ between₀ line bytes words room priority ordinary five six seven load out cursor between =
+    (Turns (AnswersText program) piece (standing (record { cursor = cursor₀; between = between₀ }) line₀ (memory room₀ priority₀ ordinary₀ five₀ six₀ seven₀ load₀) out₀)
+    (standing (record { cursor = cursor; between = between }) line (memory room priority ordinary five six seven load) out))
     × Fine (record { cursor = cursor; between = between }) (length piece)
 
 abbrev decreases-loop : tie.decreases-loop
-decreases-loop program piece line₀ bytes₀ words₀ room₀ priority₀ ordinary₀ five₀ six₀ seven₀ load₀ kept₀ marks₀ out₀ cursor₀ between₀ line bytes words room priority ordinary five six seven load kept marks out cursor between =
+decreases-loop program piece line₀ bytes₀ words₀ room₀ priority₀ ordinary₀ five₀ six₀ seven₀ load₀ out₀ cursor₀ between₀ line bytes words room priority ordinary five six seven load out cursor between =
     length piece - cursor.from
 
 -- the two tests of the loop
@@ -61,39 +61,28 @@ text-requires c κs = (c.before.before.before.before.next-line.ensures.1.1.0, (o
 
 answered-requires : tie.Need-answered-requires invariant-loop decreases-loop
 answered-requires c κs =
-    let i = c.before.before.before.before.before.before.before.before.before.before.before.before.before.before.before.before.before.before.before.before.before.before in
-    (c.before.before.before.before.before.before.before.before.before.before.before.before.text.ensures.1, (i.loop.invariant.1.within, enough i.loop.cursor.from (length i.before.before.before.before.args.piece.now) i.loop.between.at c.before.before.before.before.before.before.before.before.before.before.before.before.before.before.before.before.before.before.before.if1.true))
+    let i = c.before.before.before.before.before.before.before.before.before.before.before.before.before.before.before.before.before.before.before.before in
+    (c.before.before.before.before.before.before.before.before.before.before.text.ensures.1, (i.loop.invariant.1.within, enough i.loop.cursor.from (length i.before.before.before.before.args.piece.now) i.loop.between.at c.before.before.before.before.before.before.before.before.before.before.before.before.before.before.before.before.before.if1.true))
 
 loop-less-2 : tie.Need-loop-smaller-2 invariant-loop decreases-loop
 loop-less-2 c =
-    let i = c.before.before.before.before.before.before.before.before.before.before.before.before.before.before.before.before.before.before.before.before.before.before.before in
-    let l = c.before.before.before.before.before.before.before.before.before.before.before.before.before.before.before.before.before.before.next-line in
+    let i = c.before.before.before.before.before.before.before.before.before.before.before.before.before.before.before.before.before.before.before.before.before in
+    let l = c.before.before.before.before.before.before.before.before.before.before.before.before.before.before.before.before.next-line in
     let p = i.before.before.before.before.args.piece.now in
-    let h = inside i.loop.cursor.from (length p) i.loop.between.at c.before.before.before.before.before.before.before.before.before.before.before.before.before.before.before.before.before.before.before.before.if1.true in
+    let h = inside i.loop.cursor.from (length p) i.loop.between.at c.before.before.before.before.before.before.before.before.before.before.before.before.before.before.before.before.before.before.if1.true in
     omega (arith, h, l.ensures.1.1.1, subst (λ (k : Cut). i.loop.cursor.from < k.cursor.from) (sym l.ensures.0) (cut_on p i.loop.cursor h))
 
 loop-again-2 : tie.Need-loop-preserved-2 invariant-loop decreases-loop
 loop-again-2 c =
-    let inv = c.before.before.before.before.before.before.before.before.before.before.before.before.before.before.before.before.before.before.before.before.before.before.before.loop.invariant in
-    let l = c.before.before.before.before.before.before.before.before.before.before.before.before.before.before.before.before.before.before.next-line in
+    let inv = c.before.before.before.before.before.before.before.before.before.before.before.before.before.before.before.before.before.before.before.before.before.loop.invariant in
+    let l = c.before.before.before.before.before.before.before.before.before.before.before.before.before.before.before.before.next-line in
     let a = c.answered.ensures in (
-      another _ _ _ inv.0 (turn_found _ _ _ _ l.result l.ensures.0 refl l.ensures.1.0 c.before.before.before.before.before.before.before.before.before.before.before.before.before.before.before.before.match.keys2 (rw c.before.before.before.before.before.before.before.before.before.before.before.before.before.text.ensures.0 at a)),
+      another _ _ _ inv.0 (turn_found _ _ _ _ l.result l.ensures.0 refl l.ensures.1.0 c.before.before.before.before.before.before.before.before.before.before.before.before.before.before.match.keys2 (rw c.before.before.before.before.before.before.before.before.before.before.before.text.ensures.0 at a)),
       record { start = l.ensures.1.1.1.0; longest = l.ensures.1.1.1.1; within = within_answered a inv.1.within },
     )
 
 pub gather_spec : {M : Type 1} → statement M
 gather_spec =
     tie.close
-    (tie.spec
-    invariant-loop
-    decreases-loop
-    loop-holds
-    next-line-requires
-    (λ c. search rules)
-    loop-less
-    loop-again
-    text-requires
-    answered-requires
-    loop-less-2
-    loop-again-2
-    (λ c. let inv = c.before.before.before.loop.invariant in (inv.0, (inv.1, c.if1.false))))
+    (tie.spec invariant-loop decreases-loop loop-holds next-line-requires (λ c. search rules) loop-less loop-again text-requires answered-requires loop-less-2
+    loop-again-2 (λ c. let inv = c.before.before.before.loop.invariant in (inv.0, (inv.1, c.if1.false))))

@@ -1,7 +1,7 @@
 -- Each part is as long as it is asked to be.
 use mathlib.Core.Path.{◌≡◌, refl, sym, ap, ◌∙◌}
 use Rattle.rows.proofs.Laws.{ran-case}
-use Rattle.presets.specs.Tables.{Three}
+use Rattle.tables.specs.Tables.{Three}
 use Rattle.rules.specs.State.{fresh_pod}
 use Rattle.rules.specs.Calls.{power_call, power_rows}
 use lib.Seq.{length-take-le}

@@ -10,11 +10,11 @@ use Rattle.line_loop.proofs.turns.run.Statement.{statement}
 use Rattle.line_loop.proofs.turns.run.Tie as tie
 
 abbrev invariant-loop : tie.invariant-loop
-invariant-loop program piece₀ line₀ bytes₀ words₀ room₀ priority₀ ordinary₀ five₀ six₀ seven₀ load₀ kept₀ marks₀ out₀ desk₀ between₀ piece line bytes words room priority ordinary five six seven load kept marks out desk between =
+invariant-loop program piece₀ line₀ bytes₀ words₀ room₀ priority₀ ordinary₀ five₀ six₀ seven₀ load₀ out₀ desk₀ between₀ piece line bytes words room priority ordinary five six seven load out desk between =
     Ready desk between
 
 abbrev decreases-loop : tie.decreases-loop
-decreases-loop program piece₀ line₀ bytes₀ words₀ room₀ priority₀ ordinary₀ five₀ six₀ seven₀ load₀ kept₀ marks₀ out₀ desk₀ between₀ piece line bytes words room priority ordinary five six seven load kept marks out desk between =
+decreases-loop program piece₀ line₀ bytes₀ words₀ room₀ priority₀ ordinary₀ five₀ six₀ seven₀ load₀ out₀ desk₀ between₀ piece line bytes words room priority ordinary five six seven load out desk between =
     desk.left
 
 loop-holds : tie.Need-loop-init invariant-loop decreases-loop

@@ -1,7 +1,7 @@
 -- `orders::order` meets its contract: at each `return` the tests that led there pick the case.
 use borrow.Author.Rules.{rules}
 use mathlib.Core.Path.{sym, ◌∙◌}
-use Rattle.orders.proofs.Orders.{even_other, is_stop, is_restart_lem, is_next, is_table, is_preset_lem}
+use Rattle.orders.proofs.Orders.{even_other, is_stop, is_restart_lem, is_next, is_table, is_other}
 use Rattle.orders.proofs.Lengths.{allowed_has}
 use Rattle.orders.proofs.asked.order.Statement.{statement}
 use Rattle.orders.proofs.asked.order.Tie as tie
@@ -31,13 +31,10 @@ order_spec =
     let e1 = e3.before.before.before.before in
     sym (is_next _ e1.if1.false (sym e3.before.writes.ensures ∙ e3.if3.false) (sym e4.before.writes2.ensures ∙ e4.if4.false)
     (sym c.before.writes3.ensures ∙ c.if5.true)))
-    (λ c κs. search rules)
     (λ c.
-    let e5 = c.before in
-    let e4 = e5.before.before in
+    let e4 = c.before.before in
     let e3 = e4.before.before in
     let e2 = e3.before.before in
     let e1 = e2.before.before in
-    c.preset-order.ensures
-    ∙ sym (is_preset_lem _ e1.if1.false (sym e3.before.writes.ensures ∙ e3.if3.false) (sym e4.before.writes2.ensures ∙ e4.if4.false)
-    (sym e5.before.writes3.ensures ∙ e5.if5.false) (sym e2.before.allowed.ensures ∙ e2.if2.false))))
+    sym (is_other _ e1.if1.false (sym e3.before.writes.ensures ∙ e3.if3.false) (sym e4.before.writes2.ensures ∙ e4.if4.false)
+    (sym c.before.writes3.ensures ∙ c.if5.false) (sym e2.before.allowed.ensures ∙ e2.if2.false))))

@@ -1,6 +1,6 @@
 -- `packet_port::port::asked` meets its contract: obeyed, and then replied. Assumes nothing.
 use mathlib.Core.Bool.{cond}
-use Rattle.presets.specs.Tables.{starts}
+use Rattle.tables.specs.Tables.{starts}
 use Rattle.rules.specs.State.{with_stores, with_tables}
 use Rattle.packet_port.proofs.Answering.{obeyed_ready, replied_is, stores_stay}
 use borrow.Author.Rules.{rules}

@@ -1,7 +1,7 @@
 -- `packet_port::port::packet` meets its contract: shut is `refused_is`, open is `packet_given`. Assumes nothing.
 use mathlib.Core.Path.{refl}
 use Rattle.rows.proofs.Laws.{refused_is}
-use Rattle.presets.specs.Tables.{three}
+use Rattle.tables.specs.Tables.{three}
 use Rattle.rules.specs.State.{with_tables}
 use Rattle.rules.specs.Refusals.{answer_said}
 use Rattle.rules.specs.Calls.{packet_call}

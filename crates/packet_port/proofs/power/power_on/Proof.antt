@@ -3,7 +3,7 @@ use mathlib.Core.Path.{refl, ap₂, ◌∙◌}
 use Rattle.rows.specs.Rows.{here, none, past, out, gave}
 use Rattle.rows.proofs.Bool.{as_row}
 use Rattle.rows.proofs.Laws.{refused_is, given_is}
-use Rattle.presets.specs.Tables.{Three}
+use Rattle.tables.specs.Tables.{Three}
 use Rattle.rules.specs.declared.Pod.{Pod}
 use Rattle.rules.specs.Refusals.{done, refusal_number, answer_said}
 use Rattle.rules.specs.Calls.{power_call}

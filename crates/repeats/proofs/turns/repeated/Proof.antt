@@ -6,10 +6,10 @@ use Rattle.repeats.proofs.turns.repeated.Statement.{statement}
 use Rattle.repeats.proofs.turns.repeated.Tie as tie
 
 abbrev invariant-loop : tie.invariant-loop
-invariant-loop call₀ times first word bytes message₀ room₀ priority ordinary₀ load₀ five₀ six₀ seven₀ kept₀ marks₀ pod₀ answer₀ byte₀ turn₀ call message room ordinary load five six seven kept marks pod answer byte turn = turn ≤ times
+invariant-loop call₀ times word bytes message₀ room₀ priority ordinary₀ load₀ five₀ six₀ seven₀ pod₀ answer₀ byte₀ turn₀ call message room ordinary load five six seven pod answer byte turn = turn ≤ times
 
 abbrev decreases-loop : tie.decreases-loop
-decreases-loop call₀ times first word bytes message₀ room₀ priority ordinary₀ load₀ five₀ six₀ seven₀ kept₀ marks₀ pod₀ answer₀ byte₀ turn₀ call message room ordinary load five six seven kept marks pod answer byte turn = times - turn
+decreases-loop call₀ times word bytes message₀ room₀ priority ordinary₀ load₀ five₀ six₀ seven₀ pod₀ answer₀ byte₀ turn₀ call message room ordinary load five six seven pod answer byte turn = times - turn
 
 pub repeated_spec : {M : Type 1} → statement M
 repeated_spec =

@@ -1,6 +1,6 @@
 -- `tables::bounds::sized` meets its contract.
 use borrow.Author.Rules.{rules}
-use Rattle.presets.specs.Tables.{tables_sized}
+use Rattle.tables.specs.Tables.{tables_sized}
 use Rattle.tables.proofs.bounds.sized.Statement.{statement}
 use Rattle.tables.proofs.bounds.sized.Tie as tie
 

@@ -25,9 +25,8 @@ transfer_sound_spec =
     tie.close
     (tie.spec (λ c. search rules) (λ c. search rules) (λ c. search rules) (λ c κs. search rules) (λ c. search rules) (λ c κs. search rules)
     (λ c. rw (c.before.before.before.t2.given.1, by-along _ _ _, sym c.before.along2.ensures ∙ not-true _ c.if1.true))
-    (λ c. search rules) (λ c κs. search rules) (λ c. search rules) (λ c. simp c.enum_told.given.1) (λ c. simp c.enum-told2.given.1)
+    (λ c. search rules) (λ c κs. search rules) (λ c. simp c.enum_told.given.1) (λ c. simp c.enum-told2.given.1)
     (λ c. c.along.ensures ∙ sym (ap sound_transfer c.before.before.t.given.1))
     (λ c.
     let a = c.before.before in
-    rw (a.before.before.t2.given.1, by-along _ _ _, sym a.along2.ensures ∙ not-false _ c.before.if1.false) c.within.ensures)
-    (λ c. simp c.enum-told3.given.1))
+    rw (a.before.before.t2.given.1, by-along _ _ _, sym a.along2.ensures ∙ not-false _ c.before.if1.false) c.within.ensures))

@@ -2,7 +2,7 @@
 use borrow.Author.Rules.{rules}
 use mathlib.Core.Path.{sym, ap, ◌∙◌}
 use borrow.Author.Tests.{not-true, not-false}
-use Rattle.presets.specs.Tables.{Three}
+use Rattle.tables.specs.Tables.{Three}
 use Rattle.tables.specs.Port.{desk, tabled}
 use Rattle.tables.proofs.Obeying.{beside}
 use Rattle.tables.proofs.Loading.{judged_right, judged_wrong}
@@ -13,15 +13,15 @@ pub last_word_spec : {M : Type 1} → statement M
 last_word_spec =
     tie.close
     (tie.spec (λ c κs. search rules) (λ c κs. search rules)
-    (λ c. λ r. beside _ c.with-error.ensures ∙ sym (judged_wrong _ _ _ _ r (sym c.before.before.right.ensures ∙ not-true _ c.before.if1.true)))
+    (λ c. beside _ c.with-error.ensures ∙ sym (judged_wrong _ _ _ _ (sym c.before.before.right.ensures ∙ not-true _ c.before.if1.true)))
     (λ c κs.
     let e = c.before.before.before in
     let s = e.before.before.before.before.before in
     (s.requires.0, s.requires.1, s.requires.2, s.requires.3, sym e.before.right.ensures ∙ not-false _ e.if1.false)) (λ c. search rules)
     (λ c. search rules) (λ c. search rules)
-    (λ c. λ r.
+    (λ c.
     let p = c.before.before.before.before.before.before in
     let e = p.before.before.before.before in
     let a = e.before.before.before.before.before.args in
-    ap (λ (s : Three). tabled a.w (desk s a.words r)) p.store.ensures
-    ∙ sym (judged_right _ _ _ _ r (sym e.before.right.ensures ∙ not-false _ e.if1.false))))
+    ap (λ (s : Three). tabled a.w (desk s a.words)) p.store.ensures
+    ∙ sym (judged_right _ _ _ _ (sym e.before.right.ensures ∙ not-false _ e.if1.false))))

@@ -3,7 +3,7 @@ use borrow.Author.Rules.{rules}
 use mathlib.Core.Path.{sym, ap, ◌∙◌}
 use lib.ListN.{set}
 use Rattle.tables.specs.declared.Words.{Words}
-use Rattle.presets.specs.Tables.{three}
+use Rattle.tables.specs.Tables.{three}
 use Rattle.tables.specs.Port.{load_judged}
 use Rattle.tables.proofs.Loading.{load_more, load_last}
 use Rattle.tables.proofs.Obeying.{beside}
@@ -14,13 +14,13 @@ pub load_word_spec : {M : Type 1} → statement M
 load_word_spec =
     tie.close
     (tie.spec (λ c. search rules) (λ c. search rules) (λ c. search rules) (λ c κs. search rules)
-    (λ c. λ r. beside _ c.with-transfer.ensures ∙ sym (load_more _ _ _ _ c.before.if1.true)) (λ c κs. search rules) (λ c κs. search rules)
+    (λ c. beside _ c.with-transfer.ensures ∙ sym (load_more _ _ _ _ c.before.if1.true)) (λ c κs. search rules) (λ c κs. search rules)
     (λ c. search rules) (λ c. search rules) (λ c. search rules)
-    (λ c. λ r.
+    (λ c.
     let j = c.before.before.before.before.before.before in
     let t = j.before.before.before.before in
     let e = t.before.before in
     let a = e.before.before.before.before.before.args in
-    j.last_word.ensures r
-    ∙ ap (λ (w : Words). load_judged a.h (set a.load.now a.k a.x) w (three a.five.now a.six.now a.seven.now) r) t.with-transfer2.ensures
+    j.last_word.ensures
+    ∙ ap (λ (w : Words). load_judged a.h (set a.load.now a.k a.x) w (three a.five.now a.six.now a.seven.now)) t.with-transfer2.ensures
     ∙ sym (load_last _ _ _ _ e.if1.false)))

@@ -8,8 +8,7 @@ use borrow.Author.Tests.{not-true, not-false, leb-true}
 use Rattle.tables.specs.declared.Places.{Places}
 use Rattle.tables.specs.declared.Given.TheVariants.{Nowhere}
 use Rattle.tables.specs.declared.Transfer.TheVariants.{Read}
-use Rattle.presets.specs.Tables.{table_size}
-use Rattle.tables.specs.Places.{with_read_place}
+use Rattle.tables.specs.Tables.{table_size, with_read_place}
 use Rattle.tables.specs.Port.{data_count, fits, with_given, with_places, with_transfer}
 use Rattle.tables.proofs.Reading.{size_most, read_past, read_taken}
 use Rattle.tables.proofs.reads.read_at.Statement.{statement}

@@ -3,7 +3,7 @@ use borrow.Author.Rules.{rules}
 use mathlib.Core.Path.{sym, ap, ◌∙◌}
 use Prim.Native.Nat.{ℕ}
 use Rattle.orders.specs.declared.Table.{Table}
-use Rattle.presets.specs.Tables.{three, words_of}
+use Rattle.tables.specs.Tables.{three, words_of}
 use Rattle.tables.specs.Port.{read_word}
 use Rattle.tables.proofs.reads.word_of.Statement.{statement}
 use Rattle.tables.proofs.reads.word_of.Tie as tie

@@ -1,10 +1,10 @@
 -- `word_port::words::command_word` meets its contract: shut is `refused_is`, open is `command-given`. Assumes nothing.
 use mathlib.Core.Path.{refl}
 use Rattle.rows.proofs.Laws.{refused_is}
-use Rattle.presets.specs.Tables.{three}
+use Rattle.tables.specs.Tables.{three}
 use Rattle.tables.specs.Port.{desk}
 use Rattle.rules.specs.Refusals.{answer_said}
-use Rattle.rules.specs.Families.{word_lent, word_state}
+use Rattle.rules.specs.Families.{word_lent}
 use Rattle.rules.specs.Calls.{word_call}
 use Rattle.gates.proofs.Fits.{words_fit}
 use Rattle.gates.proofs.Told.{open_clear, shut-first}
@@ -21,18 +21,18 @@ command-requires c κs =
 
 returns-2 : tie.Need-returns-2
 unfolding answer_said
-returns-2 c l s =
+returns-2 c l =
     let d = c.before.before.before.before.before.before in
     let e = d.before.before.before.before in
     let g = e.before.before in
     let a = g.before.before.before.before.before.before.before.before.before.args in
-    command-given a.word (desk (three a.five.now a.six.now a.seven.now) l s) a.pod (d.command.ensures l s) (open_clear e.enum_told.given.1 (g.word-gate.ensures _ g.before.before.before.before.sound.ensures))
+    command-given a.word (desk (three a.five.now a.six.now a.seven.now) l) a.pod (d.command.ensures l) (open_clear e.enum_told.given.1 (g.word-gate.ensures _ g.before.before.before.before.sound.ensures))
 
 pub command_word_spec : {M : Type 1} → statement M
-unfolding word_call word_lent word_state answer_said
+unfolding word_call word_lent answer_said
 command_word_spec =
     tie.close
     (tie.spec (λ c κs. search rules) (λ c κs. search rules) (λ c. search rules) (λ c. search rules) command-requires (λ c. refl)
     (λ c. refl) (λ c. refl)
-    (λ c l s. refused_is _ _ _ (shut-first c.before.gate.given.1 (c.before.before.before.word-gate.ensures _ c.before.before.before.before.before.before.before.sound.ensures)))
+    (λ c l. refused_is _ _ _ (shut-first c.before.gate.given.1 (c.before.before.before.word-gate.ensures _ c.before.before.before.before.before.before.before.sound.ensures)))
     (λ c. c.before.before.before.before.before.five.given) (λ c. c.before.before.before.six.given) (λ c. c.before.seven.given) returns-2)

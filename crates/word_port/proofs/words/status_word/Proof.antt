@@ -3,7 +3,7 @@ use Rattle.rows.specs.Rows.{here, none, past}
 use Rattle.rows.proofs.Bool.{as_row}
 use Rattle.rows.proofs.Laws.{refused_is}
 use Rattle.rules.specs.Refusals.{refusal_number, answer_said}
-use Rattle.rules.specs.Families.{word_lent, word_state}
+use Rattle.rules.specs.Families.{word_lent}
 use Rattle.rules.specs.Calls.{word_call}
 use Rattle.word_port.proofs.Given.{status_given}
 use borrow.Author.Rules.{rules}
@@ -17,7 +17,7 @@ returns-2 c d =
     status_given _ _ c.before.status.ensures (past (as_row e1.before.sound.ensures e1.if1.false) none)
 
 pub status_word_spec : {M : Type 1} → statement M
-unfolding word_call word_lent word_state answer_said refusal_number
+unfolding word_call word_lent answer_said refusal_number
 status_word_spec =
     tie.close (tie.spec (λ c κs. search rules) (λ c d. refused_is _ _ _ (here (as_row c.before.sound.ensures c.if1.true)))
     (λ c κs. search rules) returns-2)

@@ -1,4 +1,0 @@
-pub mod Presets
-pub mod Needed
-pub mod Counted
-pub mod PresetExamples

@@ -1,2 +1,0 @@
-pub mod Presets
-pub mod PresetExamples

@@ -1,1 +1,0 @@
-// Presets, line by line with numbers written out, computed by the rules. There is no code here.
