@@ -1,4 +1,6 @@
 // What a line of the program aircraft is answered, and what is on its way after it.
+#![tactic(auto)]
+
 mod answering;
 mod meanings;
 mod outcomes;
@@ -7,7 +9,7 @@ use airframe::Sending;
 pub use answering::answer;
 
 // What is on its way: how often it may still be sent, and its bytes, so many from the start of the room.
-#[derive(Drop)]
+#[derive(Clone, Copy)]
 pub struct Underway {
     pub sending: Sending,
     pub room: [u8; 25],
@@ -15,7 +17,7 @@ pub struct Underway {
 }
 
 // What is on its way after a line, and the output's place behind the line's answer.
-#[derive(Drop)]
+#[derive(Clone, Copy)]
 pub struct Answered {
     pub underway: Underway,
     pub at: usize,

@@ -1,4 +1,6 @@
 // What a line of the program aircraft asks.
+#![tactic(auto)]
+
 mod asking;
 mod commands;
 mod fields;
@@ -10,7 +12,7 @@ use packets::Command;
 
 // A line of the table. An answer's bytes lie in lent memory, so many from its start. Outside is a command whose numbers no command
 // can hold.
-#[derive(Drop)]
+#[derive(Clone, Copy)]
 pub enum Line {
     Send(Command),
     Outside,

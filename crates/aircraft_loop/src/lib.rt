@@ -1,4 +1,6 @@
 // The reading loop of the program aircraft: a line in, a line out.
+#![tactic(auto)]
+
 mod playing;
 mod turns;
 
@@ -7,7 +9,7 @@ use lines::Cursor;
 pub use playing::play;
 
 // Where the next line starts, what is on its way, and the output's place.
-#[derive(Drop)]
+#[derive(Clone, Copy)]
 pub struct Standing {
     pub cursor: Cursor,
     pub answered: Answered,

@@ -9,6 +9,7 @@ use aircraft_lines::read_line;
 use airframe::Sending;
 use lines::{Found, next_line, text};
 use pieces::{flush, next_piece};
+use std::io::Stdin;
 
 // The longest line of output has 800 characters: with fewer left, what is gathered is written first.
 const ENOUGH: usize = 64736;
@@ -86,6 +87,7 @@ pub fn run(
     line: &mut [u8; 196606],
     bytes: &mut [u8; 65536],
     out: &mut [u8; 65536],
+    input: &mut Stdin,
 ) {
     let mut desk = pieces::start();
     let mut done = fresh();
@@ -104,7 +106,7 @@ pub fn run(
             out,
         );
         let gathered = stood.answered;
-        desk = next_piece(stood.cursor, have, left, gathered.at, piece, out);
+        desk = next_piece(stood.cursor, have, left, gathered.at, piece, out, input);
         done = emptied(gathered);
     }
     let cursor = desk.cursor;

@@ -1,4 +1,6 @@
 // The aircraft's half of the packet port: commands and acknowledgements built, answers read, and when to send again.
+#![tactic(auto)]
+
 mod building;
 mod nine;
 mod reading;
@@ -10,21 +12,21 @@ use packets::Fields;
 pub use reading::{block, ids, read};
 
 // Nine numbers as the fields of an Initialise or an Update, or one of them is too large for its field.
-#[derive(Drop)]
+#[derive(Clone, Copy)]
 pub enum Given {
     Inside(Fields),
     Outside,
 }
 
 // An acknowledgement by its form: the 0x01 form, or the 0x09 form with its error byte.
-#[derive(Drop)]
+#[derive(Clone, Copy)]
 pub enum Form {
     Taken,
     Failed(u8),
 }
 
 // Why nothing is built or read: 20, 23 and 24.
-#[derive(Drop)]
+#[derive(Clone, Copy)]
 pub enum Refusal {
     Field,
     Wrong,
@@ -32,14 +34,14 @@ pub enum Refusal {
 }
 
 // How many bytes were built, from the start of the room.
-#[derive(Drop)]
+#[derive(Clone, Copy)]
 pub enum Built {
     Bytes(usize),
     Refused(Refusal),
 }
 
 // What a status answer shows, but for the ids, which are a part of the answer.
-#[derive(Drop)]
+#[derive(Clone, Copy)]
 pub struct Shown {
     pub mode: u8,
     pub flags: u16,
@@ -49,7 +51,7 @@ pub struct Shown {
 }
 
 // What an answer means. A value has its parameter's id. The ids of a status and the bytes of a block are parts of the answer.
-#[derive(Drop)]
+#[derive(Clone, Copy)]
 pub enum Meaning {
     Unusable,
     Done,
@@ -60,7 +62,7 @@ pub enum Meaning {
 }
 
 // How often what is on its way may still be sent.
-#[derive(Drop)]
+#[derive(Clone, Copy)]
 pub enum Left {
     Nought,
     One,
@@ -69,14 +71,14 @@ pub enum Left {
 }
 
 // Nothing on its way, or the code of the command that awaits its answer.
-#[derive(Drop)]
+#[derive(Clone, Copy)]
 pub enum Sending {
     Over,
     Awaiting(u8, Left),
 }
 
 // What is next: nothing was on its way, the exchange has ended, send again, or the pod is lost.
-#[derive(Drop)]
+#[derive(Clone, Copy)]
 pub enum Step {
     Idle,
     Ended,
@@ -85,13 +87,13 @@ pub enum Step {
 }
 
 // Whether an answer was read, and what it means.
-#[derive(Drop)]
+#[derive(Clone, Copy)]
 pub enum Reply {
     Unread,
     Answer(Meaning),
 }
 
-#[derive(Drop)]
+#[derive(Clone, Copy)]
 pub struct Heard {
     pub step: Step,
     pub reply: Reply,

@@ -1,11 +1,13 @@
 // A store of 256-byte blocks as a ring over lent bytes: once, for any capacity.
+#![tactic(auto)]
+
 ghost use Rattle.std.specs.Prelude.{◌≡◌, true, ◌+◌, ◌*◌, ◌<◌, ◌≤◌, length};
 ghost use Rattle.blocks.specs.Stores.{capacity_of, store_sized, store_of, sound_ring, empty_ring, place_behind, block_at, oldest_of, put_ring, put_store, dropped_ring};
 
 use numbers::copy;
 
 // Which of the two stores.
-#[derive(Drop)]
+#[derive(Clone, Copy)]
 pub enum Store {
     Priority,
     Ordinary,
@@ -15,7 +17,7 @@ pub enum Store {
 pub const BLOCK: usize = 256;
 
 // The place of the oldest block, and how many blocks wait from there on.
-#[derive(Drop)]
+#[derive(Clone, Copy)]
 pub struct Ring {
     pub oldest: usize,
     pub waiting: usize,

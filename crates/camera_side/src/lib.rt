@@ -1,4 +1,6 @@
 // The camera's side: blocks, sample sets and the byte pipe.
+#![tactic(auto)]
+
 mod bytes;
 mod camera;
 mod survey;

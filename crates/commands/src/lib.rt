@@ -1,4 +1,6 @@
 // The pod by value: its bounds, the state with one part changed, what a command and an acknowledgement do to it.
+#![tactic(auto)]
+
 mod acknowledge;
 mod bounds;
 mod changes;

@@ -1,4 +1,6 @@
 // The check of a run of bytes: CRC-16 with the polynomial 0x1021 from 0xFFFF, the high bit of each byte first.
+#![tactic(auto)]
+
 mod narrow;
 mod wide;
 

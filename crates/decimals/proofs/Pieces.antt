@@ -8,7 +8,7 @@ use mathlib.Core.List.{List, [], ◌∷◌, map}
 use lib.ListN.{length, take, drop, get_or, set, length-set, drop_of_length-le}
 use lib.Seq.{sets, set_out, drop-cons, drop-drop, take_all, take-length}
 use lib.Dec.{eqb}
-use Rattle.bytes.specs.Bytes.{index_of, index_after, slice}
+use Rattle.scans.specs.Scans.{index_of, slice}
 use Rattle.rows.proofs.Bool.{split}
 use Rattle.decimals.specs.declared.Number.{Number}
 use Rattle.decimals.specs.declared.Numbers.{Numbers}

@@ -73,7 +73,7 @@ pub fn numbers_in(text: &[u8]) -> Numbers
     let mut count = 0;
     let mut from = 0;
     while from < text.len() {
-        let end = bytes::scan::find(text, from + 1, text.len(), b' ');
+        let end = scans::find(text, from + 1, text.len(), b' ');
         let next = number(&text[from + 1..end]);
         if count < 9 {
             list[count] = next;

@@ -1,4 +1,6 @@
 // The samples of a survey: their bound, the eight averages, and the two status frames that show them.
+#![tactic(auto)]
+
 ghost use Rattle.std.specs.Prelude.{◌≡◌, true, cond, map, ℕ, ◌+◌, ◌/◌, ◌≤◌, ◌<◌, length};
 ghost use Rattle.frames.specs.Samples.{channels, sum_of, averages_of, bounded_of};
 ghost use Rattle.frames.specs.Fields.{bits_of, frame};
@@ -13,7 +15,7 @@ pub const SET: usize = 128;
 pub const CHECK: u8 = 31;
 
 // The two frames of eight bytes, AN03 and AN47.
-#[derive(Drop)]
+#[derive(Clone, Copy)]
 pub struct Frames {
     pub an03: [u8; 8],
     pub an47: [u8; 8],

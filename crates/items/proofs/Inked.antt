@@ -5,7 +5,7 @@ use native.Mathlib.Omega.{arith}
 use mathlib.Core.List.{List, [], ◌∷◌, ◌++◌}
 use lib.Dec.{ltb}
 use Rattle.rows.proofs.Bool.{split, by-test}
-use Rattle.hex.specs.Digits.{digit_of, byte_digits, word_digits}
+use Rattle.hexes.specs.Digits.{digit_of, byte_digits, word_digits}
 use Rattle.items.specs.Text.{spell}
 use Rattle.items.specs.Printed.{answer_line, digits_of, decimal}
 

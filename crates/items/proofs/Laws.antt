@@ -7,7 +7,7 @@ use mathlib.Core.Bool.{true, ◌&&◌, false≢true}
 use mathlib.Core.List.{List, [], ◌∷◌, ◌++◌}
 use lib.Dec.{ltb, eqb}
 use borrow.Author.Tests.{lt-ltb, ltb-true, eqb-true}
-use Rattle.hex.specs.Digits.{digit_of, byte_digits, word_digits}
+use Rattle.hexes.specs.Digits.{digit_of, byte_digits, word_digits}
 use Rattle.items.specs.Text.{spell, pair_in, byte_item, word_item, items_read, bytes_in, words_in}
 use Rattle.rows.proofs.Bool.{split, and_left, and_right}
 use Rattle.items.proofs.Numerals.{pair_back, pair_is}

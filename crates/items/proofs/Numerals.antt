@@ -7,7 +7,7 @@ use mathlib.Core.Bool.{true, false, ◌&&◌, and-false}
 use mathlib.Core.List.{[], ◌∷◌}
 use lib.Dec.{ltb, leb}
 use borrow.Author.Tests.{le-leb, lt-leb, lt-ltb, le-ltb, leb-true, ltb-true, ltb-false}
-use Rattle.hex.specs.Digits.{digit_of, byte_digits}
+use Rattle.hexes.specs.Digits.{digit_of, byte_digits}
 use Rattle.items.specs.Text.{digit_value, pair_in}
 use Rattle.rows.proofs.Bool.{split, and_left, and_right}
 

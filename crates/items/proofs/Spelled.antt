@@ -6,7 +6,7 @@ use borrow.Author.Tests.{lt-ltb, le-ltb}
 use mathlib.Core.Path.{◌≡◌, refl}
 use mathlib.Core.List.{List, [], ◌∷◌, ◌++◌}
 use lib.ListN.{length, drop, get_or, drop_of_length-le, length-append}
-use Rattle.hex.specs.Digits.{byte_digits}
+use Rattle.hexes.specs.Digits.{byte_digits}
 use Rattle.items.specs.Text.{spell}
 use Rattle.items.specs.Printed.{answer_line, bytes_line, digits_of, decimal, refused_line}
 use Rattle.items.proofs.Lists.{next}

@@ -1,7 +1,7 @@
 -- The lines that are printed: a letter, what it answers, and the newline.
 -- Assumes nothing.
 use Rattle.std.specs.Prelude.{List, [], ◌∷◌, ◌++◌, ℕ, zero, suc, ◌+◌, ◌/◌, ◌%◌, cond, ltb}
-use Rattle.hex.specs.Digits.{word_digits}
+use Rattle.hexes.specs.Digits.{word_digits}
 use Rattle.items.specs.Characters.{newline, space, bang, dash, zero_digit}
 use Rattle.items.specs.Text.{spell}
 

@@ -1,7 +1,7 @@
 -- What a text is: "Bytes are pairs of capital hex digits after one space each", words are four digits. Written, and read.
 -- Assumes nothing.
 use Rattle.std.specs.Prelude.{Bool, true, false, ◌&&◌, cond, List, [], ◌∷◌, ◌++◌, ℕ, ◌+◌, ◌-◌, ◌*◌, ltb, leb, eqb, length}
-use Rattle.hex.specs.Digits.{byte_digits}
+use Rattle.hexes.specs.Digits.{byte_digits}
 use Rattle.items.specs.Characters.{space}
 use Rattle.items.specs.declared.Items.{Items}
 use Rattle.items.specs.declared.Items.TheVariants.{Good, Bad}

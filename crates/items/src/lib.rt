@@ -1,4 +1,6 @@
 // The items of a text: bytes and words read and printed, and the lines that are made of them.
+#![tactic(auto)]
+
 mod parts;
 mod printing;
 mod reading;
@@ -8,7 +10,7 @@ pub use printing::{bare_line, bytes_line, put_items, refused_line, word_line};
 pub use reading::{byte_item, bytes_in, word_item, words_in};
 
 // What a text of items is: so many values, or something else.
-#[derive(Drop)]
+#[derive(Clone, Copy)]
 pub enum Items {
     Good(usize),
     Bad,

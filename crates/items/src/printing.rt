@@ -15,7 +15,7 @@ pub fn put_items(out: &mut [u8], at: usize, bytes: &[u8]) -> usize
     let mut to = at;
     let mut i = 0;
     while i < bytes.len() {
-        let digits = hex::byte(bytes[i]);
+        let digits = hexes::byte(bytes[i]);
         let item = [b' ', digits[0], digits[1]];
         to = append(out, to, &item);
         i += 1;
@@ -44,7 +44,7 @@ pub fn word_line(out: &mut [u8], at: usize, letter: u8, word: u16) -> usize
     ensures value { result ≡ at + 7 }
     ensures out_after { out.new ≡ sets out.old at (word_line letter word) }
 {
-    let digits = hex::word(word);
+    let digits = hexes::word(word);
     append(
         out,
         at,

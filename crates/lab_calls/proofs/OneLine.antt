@@ -6,7 +6,7 @@ use mathlib.Core.Path.{◌≡◌, sym, ap, ◌∙◌}
 use mathlib.Core.List.{List, [], ◌∷◌, ◌++◌, append_assoc}
 use lib.ListN.{length}
 use Rattle.rows.proofs.Bool.{by-test}
-use Rattle.hex.specs.Digits.{word_digits}
+use Rattle.hexes.specs.Digits.{word_digits}
 use Rattle.crc.specs.Crc.{crc_of}
 use Rattle.pipe.specs.Output.{held_out}
 use Rattle.items.proofs.Inked.{Inked, inked_both, word_inked}

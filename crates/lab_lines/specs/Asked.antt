@@ -1,7 +1,7 @@
 -- What a line of X or L asks for: a name, and numbers in the range of what it names.
 -- Assumes nothing.
 use Rattle.std.specs.Prelude.{ℕ, ◌+◌, ◌^◌, Bool, false, not, ◌&&◌, cond, List, ltb, leb, eqb, ℤ, pos, neg_ℤ, take, drop, get_or}
-use Rattle.bytes.specs.Bytes.{index_of}
+use Rattle.scans.specs.Scans.{index_of}
 use Rattle.items.specs.Characters.{space}
 use Rattle.blocks.specs.declared.Store.TheVariants.{Priority, Ordinary}
 use Rattle.orders.specs.declared.Table.{Table}

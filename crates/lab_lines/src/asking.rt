@@ -5,7 +5,7 @@ ghost use Rattle.lab_lines.specs.Asked.{cell_asked, value_asked, exchange_of, ex
 use crate::ranges::{cell_most, minus_one, right_size, up_to};
 use crate::transfers::{five, only};
 use blocks::Store;
-use bytes::scan::find;
+use scans::find;
 use decimals::{Number, Numbers, below, numbers_in};
 use lab_names::{Part, named};
 use lab_sets::{Cell, Change, Thing};

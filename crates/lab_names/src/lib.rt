@@ -1,4 +1,6 @@
 // The names of the lines `X` and `L`, each behind its letter.
+#![tactic(auto)]
+
 mod names;
 mod parts;
 mod texts;
@@ -7,7 +9,7 @@ use lab_sets::{Cell, Thing};
 pub use names::named;
 
 // What a name stands for. A parameter has its id.
-#[derive(Drop)]
+#[derive(Clone, Copy)]
 pub enum Part {
     Unknown,
     Cell(Cell),

@@ -32,7 +32,7 @@ pub fn named(head: &[u8]) -> Part
     let table = texts();
     for i in 0..NAMES {
         let at = i * LONGEST;
-        if check::same(&text, &table[at..at + LONGEST]) {
+        if text[..] == table[at..at + LONGEST] {
             return part_at(i);
         }
     }

@@ -1,4 +1,6 @@
 // What a line of `X` sets: a part of the state, whatever bound it then breaks.
+#![tactic(auto)]
+
 mod cells;
 mod fields;
 mod setting;
@@ -9,7 +11,7 @@ pub use setting::set;
 use tables::{Given, Table, Transfer};
 
 // A field of Initialise and Update.
-#[derive(Drop)]
+#[derive(Clone, Copy)]
 pub enum Field {
     Mode,
     Flags,
@@ -21,7 +23,7 @@ pub enum Field {
 }
 
 // A part of the state that a number from 0 on says. A mark has its id, a missing id its place in the kept list.
-#[derive(Drop)]
+#[derive(Clone, Copy)]
 pub enum Cell {
     Initialised,
     Field(Field),
@@ -38,7 +40,7 @@ pub enum Cell {
 }
 
 // What is lent to a call.
-#[derive(Drop)]
+#[derive(Clone, Copy)]
 pub enum Thing {
     Room,
     Store(Store),
@@ -46,7 +48,7 @@ pub enum Thing {
 }
 
 // What a line of `X` or `L` asks for: a part with what it becomes, a thing with its size. A parameter has its id.
-#[derive(Drop)]
+#[derive(Clone, Copy)]
 pub enum Change {
     Nothing,
     Cell(Cell, u64),
@@ -58,7 +60,7 @@ pub enum Change {
 }
 
 // The state after a line of `X`, and whether the line was one.
-#[derive(Drop)]
+#[derive(Clone, Copy)]
 pub struct Changed {
     pub ok: bool,
     pub pod: Pod,

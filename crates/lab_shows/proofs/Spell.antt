@@ -5,7 +5,7 @@ use mathlib.Core.Path.{◌≡◌, sym, ap, ◌∙◌}
 use mathlib.Core.List.{List, [], ◌∷◌, ◌++◌, append_assoc}
 use lib.IntN.{ℤ}
 use lib.ListN.{length, drop, get_or, drop_of_length-le}
-use Rattle.hex.specs.Digits.{word_digits}
+use Rattle.hexes.specs.Digits.{word_digits}
 use Rattle.decimals.specs.Printing.{spelled}
 use Rattle.decimals.proofs.Spell.{next, spelled-both}
 use Rattle.lab_shows.specs.Shown.{spelled_words}

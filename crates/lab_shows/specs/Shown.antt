@@ -2,7 +2,7 @@
 -- Assumes nothing.
 use Rattle.std.specs.Prelude.{ℕ, Bool, true, false, List, [], ◌∷◌, ◌++◌, map, ℤ, pos, negsuc, take}
 use Rattle.crc.specs.Crc.{crc_of}
-use Rattle.hex.specs.Digits.{word_digits}
+use Rattle.hexes.specs.Digits.{word_digits}
 use Rattle.numbers.specs.Numbers.{high_first}
 use Rattle.items.specs.Characters.{newline, space}
 use Rattle.orders.specs.Command.{table_number}

@@ -1,4 +1,6 @@
 // The line `V`: the state and the memory, shown.
+#![tactic(auto)]
+
 mod checks;
 mod parts;
 mod runs;

@@ -57,7 +57,7 @@ pub fn put_words(out: &mut [u8], at: usize, words: &[u16]) -> usize
     let mut to = at;
     let mut i = 0;
     while i < words.len() {
-        let d = hex::word(words[i]);
+        let d = hexes::word(words[i]);
         let item = [b' ', d[0], d[1], d[2], d[3]];
         to = append(out, to, &item);
         i += 1;

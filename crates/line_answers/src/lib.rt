@@ -1,4 +1,6 @@
 // The answers to the lines of a piece of input.
+#![tactic(auto)]
+
 mod answering;
 mod asking;
 
@@ -8,7 +10,7 @@ use lines::Cursor;
 use rules::Pod;
 
 // Which lines a program answers: session packets alone, console those of every port, lab those and its own.
-#[derive(Drop)]
+#[derive(Clone, Copy)]
 pub enum Program {
     Session,
     Console,
@@ -16,7 +18,7 @@ pub enum Program {
 }
 
 // What stands between two lines: the pod, how much of each thing is lent to the next call, and the output's place.
-#[derive(Drop)]
+#[derive(Clone, Copy)]
 pub struct Between {
     pub pod: Pod,
     pub sizes: Sizes,
@@ -24,7 +26,7 @@ pub struct Between {
 }
 
 // And where the next line starts.
-#[derive(Drop)]
+#[derive(Clone, Copy)]
 pub struct Standing {
     pub cursor: Cursor,
     pub between: Between,

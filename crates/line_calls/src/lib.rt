@@ -1,4 +1,6 @@
 // The call that a line asks, and its answer printed.
+#![tactic(auto)]
+
 mod calling;
 mod lending;
 mod speaking;
@@ -7,14 +9,14 @@ pub use lending::{answer, right_sizes};
 use rules::Pod;
 
 // The state after a line, and where the output stands.
-#[derive(Drop)]
+#[derive(Clone, Copy)]
 pub struct LineSaid {
     pub pod: Pod,
     pub at: usize,
 }
 
 // How much of each thing is lent: bytes of the answer room and of the stores, words of the tables.
-#[derive(Drop)]
+#[derive(Clone, Copy)]
 pub struct Sizes {
     pub room: usize,
     pub priority: usize,

@@ -1,4 +1,6 @@
 // The reading loop of the programs: a line in, a line out.
+#![tactic(auto)]
+
 mod playing;
 mod turns;
 

@@ -3,7 +3,7 @@ use crate::Program;
 use crate::turns::run;
 
 // Everything that the pod and the loop are lent. The loop lends of it what the calls ask for.
-pub fn play(program: Program) {
+pub fn play(rt: &HostRuntime, program: Program) {
     let mut piece = io::large_buffer();
     let mut line = [0u8; 196606];
     let mut bytes = [0u8; 65536];
@@ -30,5 +30,6 @@ pub fn play(program: Program) {
         &mut seven,
         &mut load,
         &mut out,
+        &mut rt.stdin(),
     );
 }

@@ -7,6 +7,7 @@ use line_answers::{Between, Program, Standing, answered, gather};
 use line_calls::right_sizes;
 use lines::text;
 use pieces::{flush, next_piece};
+use std::io::Stdin;
 use rules::Pod;
 
 // What stands between two lines, with nothing gathered.
@@ -59,6 +60,7 @@ pub fn run(
     seven: &mut [u16; 1088],
     load: &mut [u16; 64],
     out: &mut [u8; 65536],
+    input: &mut Stdin,
 ) {
     let mut desk = pieces::start();
     let mut between = start(five, six, seven);
@@ -83,7 +85,7 @@ pub fn run(
             out,
         );
         let gathered = standing.between;
-        desk = next_piece(standing.cursor, have, left, gathered.at, piece, out);
+        desk = next_piece(standing.cursor, have, left, gathered.at, piece, out, input);
         between = emptied(gathered);
     }
     let cursor = desk.cursor;

@@ -6,7 +6,7 @@ use mathlib.Core.Path.{◌≡◌, refl, ap, ◌∙◌}
 use mathlib.Core.List.{List, [], ◌∷◌, ◌++◌}
 use lib.Dec.{eqb}
 use borrow.Author.Tests.{lt-ltb, eqb-true}
-use Rattle.hex.specs.Digits.{byte_digits, word_digits}
+use Rattle.hexes.specs.Digits.{byte_digits, word_digits}
 use Rattle.blocks.specs.declared.Store.TheVariants.{Priority, Ordinary}
 use Rattle.items.specs.Text.{spell, bytes_in}
 use Rattle.lines.specs.Asked.{packet, deadline, put, command, data_in, data_out, status, samples, ask_byte, ask_timeout, ask_out, ask_taken, power, other, asking, one_byte, one_word, packet_in, out_in, put_in, samples_in, bare_asked, word_asked, byte_asked, short_asked, line_of}

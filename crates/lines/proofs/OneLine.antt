@@ -6,7 +6,7 @@ use mathlib.Core.Path.{◌≡◌, refl, ap}
 use mathlib.Core.List.{List, [], ◌∷◌, ◌++◌}
 use lib.ListN.{length}
 use borrow.Author.Tests.{ne_eqb}
-use Rattle.hex.specs.Digits.{word_digits}
+use Rattle.hexes.specs.Digits.{word_digits}
 use Rattle.items.specs.Printed.{answer_line, bytes_line, word_line, bare_line, decimal, refused_line}
 use Rattle.items.proofs.Inked.{Inked, word_inked, answered_inked, decimal_inked}
 use Rattle.lines.specs.Cut.{before}

@@ -1,4 +1,6 @@
 // Lines cut from what is read in pieces, and what each asks.
+#![tactic(auto)]
+
 mod asking;
 mod cutting;
 
@@ -7,7 +9,7 @@ use blocks::Store;
 pub use cutting::{last, line_end, next_line, text};
 
 // A line of the console's table. Bytes and words lie in lent memory, so many from its start.
-#[derive(Drop)]
+#[derive(Clone, Copy)]
 pub enum Line {
     Packet(usize),
     Deadline,
@@ -26,14 +28,14 @@ pub enum Line {
 }
 
 // Where the next line of a piece starts, and how many characters of it came before the piece: 196607 where they were too many.
-#[derive(Drop)]
+#[derive(Clone, Copy)]
 pub struct Cursor {
     pub from: usize,
     pub held: usize,
 }
 
 // A line: a part of the piece, as many characters of what is held, or one that is too long; or no end of it yet.
-#[derive(Drop)]
+#[derive(Clone, Copy)]
 pub enum Found {
     Here(usize, usize),
     Held(usize),
@@ -41,7 +43,7 @@ pub enum Found {
     More,
 }
 
-#[derive(Drop)]
+#[derive(Clone, Copy)]
 pub struct Cut {
     pub found: Found,
     pub cursor: Cursor,

@@ -1,4 +1,6 @@
 // Numbers in a run of bytes, high byte first, of 8, 16 and 32 bits; and a run that is copied.
+#![tactic(auto)]
+
 ghost use Rattle.std.specs.Prelude.{◌≡◌, [], ◌∷◌, ◌+◌, ◌<◌, ◌≤◌, length};
 ghost use Rattle.std.proofs.lemmas.List.Edits.{sets};
 ghost use Rattle.numbers.specs.Numbers.{high_first, number_at, signed_of, unsigned_of};
@@ -81,5 +83,5 @@ pub fn copy(to: &mut [u8], at: usize, run: &[u8])
     requires { at + length run.now ≤ length to.old }
     ensures { to.new ≡ sets to.old at run.now }
 {
-    bytes::copy(run, &mut to[at..]);
+    to[at..at + run.len()].copy_from_slice(run);
 }

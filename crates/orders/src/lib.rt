@@ -1,9 +1,11 @@
 // The command word of the table port: its parts, and what it asks for.
+#![tactic(auto)]
+
 mod asked;
 
 pub use asked::{allowed, heard};
 
-#[derive(Drop)]
+#[derive(Clone, Copy)]
 pub enum Table {
     Five,
     Six,
@@ -11,7 +13,7 @@ pub enum Table {
 }
 
 // The parts of a command word.
-#[derive(Drop)]
+#[derive(Clone, Copy)]
 pub struct Parts {
     pub odd: bool,
     pub reads: bool,
@@ -20,7 +22,7 @@ pub struct Parts {
 }
 
 // What a command word asks for. `Other` is any that is not accepted.
-#[derive(Drop)]
+#[derive(Clone, Copy)]
 pub enum Order {
     Other,
     Stop,

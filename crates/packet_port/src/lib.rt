@@ -1,4 +1,6 @@
 // The aircraft's side: packets, the deadline of an exchange, and power on.
+#![tactic(auto)]
+
 mod port;
 mod power;
 

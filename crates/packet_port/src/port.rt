@@ -18,7 +18,7 @@ use packets::{Command, Parsed};
 use rules::{Answer, Called, Pod, Refusal, Reply};
 
 // The answer's length, the next state, and whether the tables go to their starts.
-#[derive(Drop)]
+#[derive(Clone, Copy)]
 struct Replied {
     count: usize,
     pod: Pod,

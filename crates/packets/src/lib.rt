@@ -1,5 +1,7 @@
 // The packet port's paper side: what a packet is read as, and how each answer and each command is written. Nothing of the pod's
 // state is here.
+#![tactic(auto)]
+
 mod reading;
 mod writing;
 
@@ -13,7 +15,7 @@ pub const ROOM: usize = 260;
 pub const COMMAND: usize = 25;
 
 // What Initialise and Update carry.
-#[derive(Drop)]
+#[derive(Clone, Copy)]
 pub struct Fields {
     pub mode: u8,
     pub flags: u16,
@@ -27,7 +29,7 @@ pub struct Fields {
 }
 
 // The eight commands. Write has a parameter's id and its value, Read an id.
-#[derive(Drop)]
+#[derive(Clone, Copy)]
 pub enum Command {
     Initialise(Fields),
     Status,
@@ -41,7 +43,7 @@ pub enum Command {
 
 // What a packet is read as. An error has the packet's first byte and its number, an acknowledgement the first byte and whether
 // it is the 0x01 form.
-#[derive(Drop)]
+#[derive(Clone, Copy)]
 pub enum Parsed {
     Nothing,
     Error(u8, u8),
@@ -50,7 +52,7 @@ pub enum Parsed {
 }
 
 // What a status answer shows: waiting blocks of both stores, and the ids of the missing parameters.
-#[derive(Drop)]
+#[derive(Clone, Copy)]
 pub struct Report {
     pub mode: u8,
     pub flags: u16,

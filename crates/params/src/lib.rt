@@ -1,4 +1,6 @@
 // The twelve parameters of the pod: their rows as one constant table, and the state by value.
+#![tactic(auto)]
+
 mod kept;
 
 ghost use Rattle.std.specs.Prelude.{◌≡◌, ◌&&◌, ◌<◌, get_or};
@@ -7,7 +9,7 @@ ghost use Rattle.params.specs.Rules.{is_id, in_row, in_span, start_params, write
 
 use crate::kept::{listed, struck};
 
-#[derive(Drop)]
+#[derive(Clone, Copy)]
 pub struct ParamRow {
     pub least: i32,
     pub most: i32,
@@ -17,7 +19,7 @@ pub struct ParamRow {
 
 // The values, and whether each was written since Initialise; id 1 first. The ids that are asked and not written, as Status shows
 // them.
-#[derive(Drop)]
+#[derive(Clone, Copy)]
 pub struct Params {
     pub values: [i32; 12],
     pub written: [bool; 12],
@@ -25,14 +27,14 @@ pub struct Params {
 }
 
 // The next state: the same one where the write was not taken.
-#[derive(Drop)]
+#[derive(Clone, Copy)]
 pub struct Wrote {
     pub taken: bool,
     pub params: Params,
 }
 
 // What an id holds: nothing where it is no id.
-#[derive(Drop)]
+#[derive(Clone, Copy)]
 pub enum Reading {
     Held(i32),
     Unknown,

@@ -1,14 +1,16 @@
 // Input in large pieces, and output written once it is gathered: what a program does between two pieces.
+#![tactic(auto)]
+
 ghost use Rattle.std.specs.Prelude.{◌≡◌};
 ghost use Rattle.pieces.specs.Desks.{started, Went};
 
-use libc::{STDIN_FILENO, STDOUT_FILENO};
 use lines::Cursor;
+use std::io::{Read, Stdin};
 
 // The desk between two pieces: where the next line starts, how much of the piece there is, and how many turns are left, none
 // once the input or the output has ended. A proved loop has to end, and nothing says that input does: so the turns left become
 // fewer, from a number that no run uses up.
-#[derive(Drop)]
+#[derive(Clone, Copy)]
 pub struct Desk {
     pub cursor: Cursor,
     pub have: usize,
@@ -28,7 +30,7 @@ pub fn start() -> Desk
 
 // Writes what is gathered.
 pub fn flush(out: &[u8; 65536], at: usize) -> bool {
-    io::write_all(STDOUT_FILENO, items::front(out, at))
+    io::write_all(1, items::front(out, at))
 }
 
 // What is gathered is written; and where the piece is answered to its end the next one is read. At the end of input a line
@@ -40,6 +42,7 @@ pub fn next_piece(
     at: usize,
     piece: &mut [u8; 65536],
     out: &[u8; 65536],
+    input: &mut Stdin,
 ) -> Desk
     ensures { Went cursor have left result }
 {
@@ -54,8 +57,7 @@ pub fn next_piece(
         return Desk { cursor, have, left };
     }
     let held = cursor.held;
-    let got = libc::read(STDIN_FILENO, piece);
-    let n = io::count(got, piece);
+    let n = input.read(piece).unwrap_or(0);
     if n == 0 {
         return Desk {
             cursor: Cursor { from: 0, held },

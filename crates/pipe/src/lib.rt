@@ -1,12 +1,14 @@
 // The byte pipe. Its input half: bytes from the camera gather, and go to the aircraft eight at a time, or fewer after a timeout. Its
 // output half: a packet of eight from the aircraft goes to the camera one byte at a time, each after the last was taken.
+#![tactic(auto)]
+
 ghost use Rattle.std.specs.Prelude.{◌≡◌, ◌≤◌, take};
 ghost use Rattle.pipe.specs.Input.{sent_packet, empty_input, fresh_input, count_up, pipe_byte, pipe_timeout, sound_input, gathering_of};
 ghost use Rattle.pipe.specs.Output.{shown_out, fresh_output, output_packet, output_taken, output_timeout, sound_output, busy_of};
 ghost use Rattle.pipe.specs.Pipe.{fresh_pipe, sound_pipe};
 
 // Up to seven bytes gathered from the start of the array, and the timeouts that sent something.
-#[derive(Drop)]
+#[derive(Clone, Copy)]
 pub struct Input {
     pub bytes: [u8; 8],
     pub gathered: usize,
@@ -14,7 +16,7 @@ pub struct Input {
 }
 
 // Up to eight bytes in hand at the end of the array, the first of them being shown, and the timeouts that dropped something.
-#[derive(Drop)]
+#[derive(Clone, Copy)]
 pub struct Output {
     pub bytes: [u8; 8],
     pub hand: u8,
@@ -22,28 +24,28 @@ pub struct Output {
 }
 
 // The pipe as the pod holds it.
-#[derive(Drop)]
+#[derive(Clone, Copy)]
 pub struct Pipe {
     pub input: Input,
     pub output: Output,
 }
 
 // What is given, to the aircraft or to the camera: the first `count` bytes of the array, and zeros behind them.
-#[derive(Drop)]
+#[derive(Clone, Copy)]
 pub struct Sent {
     pub bytes: [u8; 8],
     pub count: usize,
 }
 
 // What a call sends, and the input after it.
-#[derive(Drop)]
+#[derive(Clone, Copy)]
 pub struct Piped {
     pub sent: Sent,
     pub input: Input,
 }
 
 // What a call shows the camera, and the output after it.
-#[derive(Drop)]
+#[derive(Clone, Copy)]
 pub struct Handed {
     pub sent: Sent,
     pub output: Output,

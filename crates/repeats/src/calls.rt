@@ -3,14 +3,14 @@ use crate::setup::number;
 use blocks::Store;
 use rules::{Called, Passed, Pod, Worded};
 
-#[derive(Drop)]
+#[derive(Clone, Copy)]
 pub enum Port {
     Packet,
     Put,
     Deadline,
 }
 
-#[derive(Drop)]
+#[derive(Clone, Copy)]
 pub enum Word {
     Command,
     In,
@@ -18,20 +18,20 @@ pub enum Word {
     Status,
 }
 
-#[derive(Drop)]
+#[derive(Clone, Copy)]
 pub enum Flow {
     Byte,
     Timeout,
     Out,
 }
 
-#[derive(Drop)]
+#[derive(Clone, Copy)]
 pub enum Shown {
     Samples,
     Sum,
 }
 
-#[derive(Drop)]
+#[derive(Clone, Copy)]
 pub enum Call {
     Other,
     Port(Port),

@@ -4,6 +4,8 @@
 // the ordinary store, the number of calls, high byte first, and what is handed in: a packet or a block, or for the table
 // words two command words, one that is sent first and one that is repeated. The last answer is printed, and `?` for any
 // other line.
+#![tactic(auto)]
+
 mod calls;
 mod setup;
 mod turns;
@@ -11,19 +13,18 @@ mod turns;
 use crate::calls::Call;
 use crate::setup::number;
 use items::Items;
-use libc::{STDIN_FILENO, STDOUT_FILENO};
 use rules::Answer;
 
 fn print(letter: u8, answer: Answer) {
     let mut out = [0u8; 8];
     let n = answers::put_answer(&mut out, 0, letter, answer);
-    io::write_all(STDOUT_FILENO, items::front(&out, n));
+    io::write_all(1, items::front(&out, n));
 }
 
 fn print_packet(answer: Answer, room: &[u8; 260]) {
     let mut out = [0u8; 784];
     let n = answers::put_packet(&mut out, 0, answer, room);
-    io::write_all(STDOUT_FILENO, items::front(&out, n));
+    io::write_all(1, items::front(&out, n));
 }
 
 // Any other line.
@@ -49,7 +50,7 @@ fn repeat(letter: u8, call: Call, given: &[u8]) {
 fn main() {
     let mut text = io::buffer();
     let mut given = io::buffer();
-    let n = io::read_full(STDIN_FILENO, &mut text);
+    let n = io::read_full(0, &mut text);
     let line = &text[..n];
     let end = lines::line_end(line, 0);
     if end == 0 {

@@ -4,17 +4,18 @@
 // Input is a line as the program `repeats` has them: `Q` or `P`, and bytes: one that is passed over, the number of calls,
 // high byte first, and for `Q` a command's packet, which is built anew, for `P` an answer to 0x96, which is read. The packet
 // or the block is printed, and `?` for any other line.
+#![tactic(auto)]
+
 mod turns;
 
 use items::Items;
-use libc::{STDIN_FILENO, STDOUT_FILENO};
 use packets::Parsed;
 
 // A letter and at most 256 bytes.
 fn print(letter: u8, bytes: &[u8]) {
     let mut out = [0u8; 772];
     let n = items::bytes_line(&mut out, 0, letter, items::front(bytes, 256));
-    io::write_all(STDOUT_FILENO, items::front(&out, n));
+    io::write_all(1, items::front(&out, n));
 }
 
 // Any other line.
@@ -68,7 +69,7 @@ fn repeat(letter: u8, given: &[u8]) {
 fn main() {
     let mut text = io::buffer();
     let mut given = io::buffer();
-    let n = io::read_full(STDIN_FILENO, &mut text);
+    let n = io::read_full(0, &mut text);
     let line = &text[..n];
     let end = lines::line_end(line, 0);
     if end == 0 {

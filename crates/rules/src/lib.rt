@@ -1,4 +1,6 @@
 // The pod's state, and what its calls answer. What each call means stands in specs/, and so do the owner's demands.
+#![tactic(auto)]
+
 use blocks::{Ring, Store};
 use frames::Frames;
 use packets::Fields;
@@ -7,7 +9,7 @@ use pipe::{Pipe, Sent};
 use tables::Words;
 
 // No exchange, or awaiting the acknowledgement of one of the four type 2 commands.
-#[derive(Drop)]
+#[derive(Clone, Copy)]
 pub enum Exchange {
     Closed,
     Status,
@@ -15,7 +17,7 @@ pub enum Exchange {
     Receive(Store),
 }
 
-#[derive(Drop)]
+#[derive(Clone, Copy)]
 pub struct Pod {
     pub initialised: bool,
     pub fields: Fields,
@@ -28,7 +30,7 @@ pub struct Pod {
 }
 
 // Why a call is refused: document 01's rows 1 to 7, in their order, and request No. 3's 21 and 22.
-#[derive(Drop)]
+#[derive(Clone, Copy)]
 pub enum Refusal {
     Room,
     Size,
@@ -42,7 +44,7 @@ pub enum Refusal {
 }
 
 // What a call answers, besides bytes that lie in lent memory or stand beside it.
-#[derive(Drop)]
+#[derive(Clone, Copy)]
 pub enum Answer {
     Refused(Refusal),
     Done,
@@ -51,7 +53,7 @@ pub enum Answer {
 }
 
 // What a command is answered, before it is bytes.
-#[derive(Drop)]
+#[derive(Clone, Copy)]
 pub enum Reply {
     Success,
     Failure(u8),
@@ -61,33 +63,33 @@ pub enum Reply {
 }
 
 // A command obeyed: the reply, the next state, and whether the tables go back to their starts.
-#[derive(Drop)]
+#[derive(Clone, Copy)]
 pub struct Obeyed {
     pub reply: Reply,
     pub pod: Pod,
     pub restart: bool,
 }
 
-#[derive(Drop)]
+#[derive(Clone, Copy)]
 pub struct Called {
     pub answer: Answer,
     pub pod: Pod,
 }
 
 // What a table word answers, with the port's next state: all else of the pod is as it came.
-#[derive(Drop)]
+#[derive(Clone, Copy)]
 pub struct Worded {
     pub answer: Answer,
     pub words: Words,
 }
 
-#[derive(Drop)]
+#[derive(Clone, Copy)]
 pub struct Framed {
     pub answer: Answer,
     pub frames: Frames,
 }
 
-#[derive(Drop)]
+#[derive(Clone, Copy)]
 pub struct Passed {
     pub answer: Answer,
     pub sent: Sent,

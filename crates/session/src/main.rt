@@ -1,6 +1,8 @@
 // A session: a packet a line, and its answer.
+#![tactic(auto)]
+
 use line_loop::Program;
 
-fn main() {
-    line_loop::play(Program::Session);
+fn main(rt: HostRuntime) {
+    line_loop::play(&rt, Program::Session);
 }

@@ -5,7 +5,7 @@ use crate::print::{letter, put_built, put_byte, put_command, put_form};
 use airframe::{Built, Form};
 use packets::{Command, Fields};
 
-#[derive(Drop)]
+#[derive(Clone, Copy)]
 enum Packet {
     Asked(Command),
     Acknowledged(u8, Form),

@@ -4,6 +4,8 @@
 // are built or the refusal, and the whole room. `R` is a code and an answer, with its size and what it is read as: `-` stands
 // for what is between its first three bytes and its last two. `S` is a code that is sent, with how often it may go again, and
 // each `P` behind it an answer, with what it is read as, what is next, and what is then on its way.
+#![tactic(auto)]
+
 mod builds;
 mod print;
 mod reads;

@@ -1,10 +1,9 @@
 // What is handed in and what it gives, as text.
 use airframe::{Built, Form, Left, Meaning, Refusal, Reply, Sending, Shown, Step};
-use libc::STDOUT_FILENO;
 use packets::{Command, Fields};
 
 fn put(text: &[u8]) {
-    io::write_all(STDOUT_FILENO, text);
+    io::write_all(1, text);
 }
 
 pub fn letter(c: u8) {
@@ -19,7 +18,7 @@ pub fn sign(c: u8) {
 
 pub fn put_byte(b: u8) {
     letter(b' ');
-    put(&hex::byte(b));
+    put(&hexes::byte(b));
 }
 
 pub fn put_bytes(bytes: &[u8]) {
@@ -32,7 +31,7 @@ pub fn put_bytes(bytes: &[u8]) {
 
 pub fn put_number(n: u64) {
     letter(b' ');
-    io::print_decimal(STDOUT_FILENO, n);
+    io::print_decimal(1, n);
 }
 
 fn put_small(b: u8) {
@@ -54,7 +53,7 @@ fn put_signed(v: i32) {
         return put_number(u);
     }
     sign(b'-');
-    io::print_decimal(STDOUT_FILENO, 0x1_0000_0000 - u);
+    io::print_decimal(1, 0x1_0000_0000 - u);
 }
 
 // How many bytes there are, and where they are many the first three and the last two.
@@ -128,7 +127,7 @@ fn number_of(refusal: Refusal) -> u64 {
 
 fn put_refusal(refusal: Refusal) {
     sign(b'!');
-    io::print_decimal(STDOUT_FILENO, number_of(refusal));
+    io::print_decimal(1, number_of(refusal));
 }
 
 // The number of bytes or of the refusal, and the whole room.

@@ -1,10 +1,11 @@
 // Prints the two frames at their corners, a line of sixteen bytes each: samples, flags, self-check numbers and timeouts
 // of both halves of the pipe.
 // `over` stands for samples that are not bounded. tests/show_frames.py works the same lines out from the papers.
+#![tactic(auto)]
+
 ghost use Rattle.std.specs.Prelude.{◌≤◌, ◌<◌};
 
 use frames::Frames;
-use libc::STDOUT_FILENO;
 use pipe::{Input, Output, Pipe};
 
 // Eight bytes as pairs of digits, a space after each, from place `at` of a line.
@@ -13,7 +14,7 @@ fn put(line: [u8; 48], at: usize, bytes: [u8; 8]) -> [u8; 48]
 {
     let mut out = line;
     for k in 0..8usize {
-        let pair = hex::byte(bytes[k]);
+        let pair = hexes::byte(bytes[k]);
         out[at + k * 3] = pair[0];
         out[at + k * 3 + 1] = pair[1];
     }
@@ -27,7 +28,7 @@ fn write(f: Frames) {
     let half = put([b' '; 48], 0, an03);
     let mut line = put(half, 24, an47);
     line[47] = b'\n';
-    io::write_all(STDOUT_FILENO, &line);
+    io::write_all(1, &line);
 }
 
 // Writes the frames of these samples. What the frames ask of a caller is tested here, as the pod does.
@@ -47,7 +48,7 @@ fn show(samples: &[u16], pipe: Pipe, initialised: bool, selfcheck: u8) {
     if frames::bounded(samples) {
         write(frames::two_frames(samples, pipe, initialised, selfcheck));
     } else {
-        io::write_all(STDOUT_FILENO, b"over\n");
+        io::write_all(1, b"over\n");
     }
 }
 

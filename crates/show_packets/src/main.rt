@@ -1,4 +1,6 @@
 // What packets are read as at the edges of the check list, and the answers with the whole room around them.
+#![tactic(auto)]
+
 mod print;
 
 ghost use Rattle.std.specs.Prelude.{◌≤◌};

@@ -1,14 +1,13 @@
 // Packets, fields and answers as lines of text.
-use libc::STDOUT_FILENO;
 use packets::{Command, Fields, Parsed};
 
 fn put(text: &[u8]) {
-    io::write_all(STDOUT_FILENO, text);
+    io::write_all(1, text);
 }
 
 fn put_byte(b: u8) {
     put(b" ");
-    put(&hex::byte(b));
+    put(&hexes::byte(b));
 }
 
 fn put_bytes(bytes: &[u8]) {
@@ -21,7 +20,7 @@ fn put_bytes(bytes: &[u8]) {
 
 fn put_number(n: u64) {
     put(b" ");
-    io::print_decimal(STDOUT_FILENO, n);
+    io::print_decimal(1, n);
 }
 
 // A parameter's value as an answer shows it, and its sign.

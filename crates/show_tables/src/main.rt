@@ -1,9 +1,10 @@
 // Every command word on a port just started: those that are accepted, by parity bit, direction, command and N.
+#![tactic(auto)]
+
 ghost use Rattle.std.specs.Prelude.{◌≡◌, true, not, [], ◌≤◌};
 ghost use Rattle.tables.specs.Tables.{starts};
 ghost use Rattle.tables.specs.Port.{desk, tabled, start_words, command_of};
 
-use libc::STDOUT_FILENO;
 
 // A command word is accepted when a port just started shows no message error after it.
 fn accepted(word: u16) -> bool
@@ -20,17 +21,17 @@ fn accepted(word: u16) -> bool
 
 // What is written is lost where nobody reads it: the answers of the writes change nothing.
 fn print(word: u16) {
-    io::write_all(STDOUT_FILENO, b"parity ");
-    io::print_decimal(STDOUT_FILENO, (word / 0x8000) as u64);
+    io::write_all(1, b"parity ");
+    io::print_decimal(1, (word / 0x8000) as u64);
     if word / 0x4000 % 2 == 0 {
-        io::write_all(STDOUT_FILENO, b" write ");
+        io::write_all(1, b" write ");
     } else {
-        io::write_all(STDOUT_FILENO, b" read ");
+        io::write_all(1, b" read ");
     }
-    io::print_decimal(STDOUT_FILENO, (word / 0x200 % 0x20) as u64);
-    io::write_all(STDOUT_FILENO, b" N ");
-    io::print_decimal(STDOUT_FILENO, (word % 0x200) as u64);
-    io::write_all(STDOUT_FILENO, b"\n");
+    io::print_decimal(1, (word / 0x200 % 0x20) as u64);
+    io::write_all(1, b" N ");
+    io::print_decimal(1, (word % 0x200) as u64);
+    io::write_all(1, b"\n");
 }
 
 // One for a word that is accepted, with its line, and none for another.
@@ -45,9 +46,9 @@ fn counted(word: u16) -> u64
 }
 
 fn print_total(total: u64) {
-    io::write_all(STDOUT_FILENO, b"accepted ");
-    io::print_decimal(STDOUT_FILENO, total);
-    io::write_all(STDOUT_FILENO, b" of 65536\n");
+    io::write_all(1, b"accepted ");
+    io::print_decimal(1, total);
+    io::write_all(1, b" of 65536\n");
 }
 
 fn main() {

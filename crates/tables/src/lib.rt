@@ -1,4 +1,6 @@
 // The table words: three lent tables of 64, 128 and 64 words that are loaded and read a word at a time.
+#![tactic(auto)]
+
 mod bounds;
 mod changes;
 mod loads;
@@ -21,7 +23,7 @@ pub use sizes::size;
 pub use starts::{start_words, to_starts};
 
 // What an open load and an open read have in common: n words, of a table.
-#[derive(Drop)]
+#[derive(Clone, Copy)]
 pub struct Header {
     pub table: Table,
     pub n: u8,
@@ -29,7 +31,7 @@ pub struct Header {
 
 // The open transfer: none, the word of the next read address, a load that is k words along, or a read that is k words
 // along and whose data words start at `start`.
-#[derive(Drop)]
+#[derive(Clone, Copy)]
 pub enum Transfer {
     Idle,
     Address,
@@ -38,14 +40,14 @@ pub enum Transfer {
 }
 
 // The address at which the next read starts, if one was given.
-#[derive(Drop)]
+#[derive(Clone, Copy)]
 pub enum Given {
     Nowhere,
     At(u16),
 }
 
 // The read place of each table.
-#[derive(Drop)]
+#[derive(Clone, Copy)]
 pub struct Places {
     pub five: u8,
     pub six: u8,
@@ -53,7 +55,7 @@ pub struct Places {
 }
 
 // The state of the port. The words of an open load are lent, as the tables are.
-#[derive(Drop)]
+#[derive(Clone, Copy)]
 pub struct Words {
     pub error: bool,
     pub transfer: Transfer,
@@ -62,7 +64,7 @@ pub struct Words {
 }
 
 // A word that is read, with the next state.
-#[derive(Drop)]
+#[derive(Clone, Copy)]
 pub struct Answered {
     pub word: u16,
     pub words: Words,

@@ -1,4 +1,6 @@
 // The aircraft's half for programs in C: what `airframe` and `crc` have, in numbers, slices and arrays.
+#![tactic(auto)]
+
 mod building;
 mod reading;
 mod steps;

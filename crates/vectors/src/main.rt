@@ -1,5 +1,6 @@
 // Prints the CRC of the catalogue's string 123456789, and then of a string of each length from 0 to 4,096, a line each.
-use libc::STDOUT_FILENO;
+#![tactic(auto)]
+
 
 // The example generator of the C standard: its bytes make the strings, one after the other.
 fn next(x: u64) -> u64 {
@@ -19,8 +20,8 @@ fn fill(bytes: &mut [u8], seed: u64) -> u64 {
 
 // Where nobody reads what is written, the next lines have nowhere to go either: the answer of the write changes nothing.
 fn print(bytes: &[u8]) {
-    let d = hex::word(crc::crc_of(bytes));
-    io::write_all(STDOUT_FILENO, &[d[0], d[1], d[2], d[3], b'\n']);
+    let d = hexes::word(crc::crc_of(bytes));
+    io::write_all(1, &[d[0], d[1], d[2], d[3], b'\n']);
 }
 
 fn string(space: &mut [u8], n: usize, seed: u64) -> u64 {

@@ -6,7 +6,7 @@ use mathlib.Core.Path.{◌≡◌, refl, sym, ap, ◌∙◌}
 use mathlib.Core.Logic.{⊎_elim}
 use mathlib.Core.List.{List, ◌∷◌}
 use lib.ListN.{length, take, drop, set, length-set}
-use Rattle.bytes.specs.Bytes.{index_of}
+use Rattle.scans.specs.Scans.{index_of}
 use Rattle.decimals.specs.declared.Number.{Number}
 use Rattle.decimals.specs.Reading.{number_in, numbers_in, numbers_read}
 use Rattle.decimals.proofs.Pieces.{found_at, numbers_on, numbers_end, stored, none_left, one_more, no_room}

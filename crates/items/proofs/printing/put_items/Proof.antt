@@ -6,7 +6,7 @@ use mathlib.Core.List.{List, [], ◌∷◌}
 use lib.ListN.{length, drop, get_or}
 use lib.Seq.{sets, length-sets}
 use borrow.Author.Rules.{rules}
-use Rattle.hex.specs.Digits.{byte_digits}
+use Rattle.hexes.specs.Digits.{byte_digits}
 use Rattle.items.specs.Text.{spell}
 use Rattle.items.proofs.Lists.{sets_join}
 use Rattle.items.proofs.Spelled.{spell_on, spell_end}

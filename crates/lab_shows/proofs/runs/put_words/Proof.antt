@@ -6,7 +6,7 @@ use mathlib.Core.Path.{◌≡◌, refl, sym, ap, ◌∙◌}
 use mathlib.Core.List.{List, [], ◌∷◌, ◌++◌}
 use lib.ListN.{length, take, drop, get_or}
 use lib.Seq.{sets}
-use Rattle.hex.specs.Digits.{word_digits}
+use Rattle.hexes.specs.Digits.{word_digits}
 use Rattle.decimals.specs.Printing.{Written}
 use Rattle.lab_shows.specs.Shown.{spelled_words}
 use Rattle.decimals.proofs.Behind.{Left, none_left, one_more, whole, appended}

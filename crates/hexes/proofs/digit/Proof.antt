@@ -3,8 +3,8 @@
 use native.Mathlib.Omega.{arith}
 use borrow.Author.Rules.{rules}
 use borrow.Author.Tests.{lt-ltb, le-ltb}
-use Rattle.hex.proofs.digit.Statement.{statement}
-use Rattle.hex.proofs.digit.Tie as tie
+use Rattle.hexes.proofs.digit.Statement.{statement}
+use Rattle.hexes.proofs.digit.Tie as tie
 
 pub digit_spec : {M : Type 1} → statement M
 digit_spec =

@@ -1,6 +1,8 @@
 // Bytes and words as capital hex digits, as the programs print them.
+#![tactic(auto)]
+
 ghost use Rattle.std.specs.Prelude.{◌≡◌, ◌<◌};
-ghost use Rattle.hex.specs.Digits.{digit_of, byte_digits, word_digits};
+ghost use Rattle.hexes.specs.Digits.{digit_of, byte_digits, word_digits};
 
 fn digit(n: u8) -> u8
     requires { n < 16 }
