@@ -5,12 +5,12 @@ ghost use Rattle.lab_lines.specs.Asked.{cell_asked, value_asked, exchange_of, ex
 use crate::ranges::{cell_most, minus_one, right_size, up_to};
 use crate::transfers::{five, only};
 use blocks::Store;
-use scans::find;
 use decimals::{Number, Numbers, below, numbers_in};
 use lab_names::{Part, named};
 use lab_sets::{Cell, Change, Thing};
 use numbers::signed;
 use rules::Exchange;
+use scans::find;
 use tables::{Given, Transfer};
 
 fn cell_asked(cell: Cell, n: Number) -> Change

@@ -7,8 +7,8 @@ use line_answers::{Between, Program, Standing, answered, gather};
 use line_calls::right_sizes;
 use lines::text;
 use pieces::{flush, next_piece};
-use std::io::Stdin;
 use rules::Pod;
+use std::io::Stdin;
 
 // What stands between two lines, with nothing gathered.
 fn emptied(between: Between) -> Between

@@ -5,7 +5,6 @@ ghost use Rattle.std.specs.Prelude.{◌≡◌, true, not, [], ◌≤◌};
 ghost use Rattle.tables.specs.Tables.{starts};
 ghost use Rattle.tables.specs.Port.{desk, tabled, start_words, command_of};
 
-
 // A command word is accepted when a port just started shows no message error after it.
 fn accepted(word: u16) -> bool
     ensures { result ≡ not (command_of true word (tabled start_words (desk starts []))).words.error }

@@ -1,7 +1,6 @@
 // Prints the CRC of the catalogue's string 123456789, and then of a string of each length from 0 to 4,096, a line each.
 #![tactic(auto)]
 
-
 // The example generator of the C standard: its bytes make the strings, one after the other.
 fn next(x: u64) -> u64 {
     (x % 2147483648 * 1103515245 + 12345) % 2147483648
