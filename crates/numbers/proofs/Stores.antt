@@ -50,3 +50,7 @@ copied to run ys at k h e y =
     let part : List ℕ = take k (drop at to) in
     let room : 0 + length run ≤ length part = simp (length-take, length-drop) (omega arith) in
     lent to ys run at k h e (y ∙ rw (sets-eq run part 0 room, zero-add, take-length))
+
+-- a run in the place of as many elements
+pub pasted : (to run : List ℕ) (at : ℕ) → at + length run ≤ length to → take at to ++ (run ++ drop (length run) (drop at to)) ≡ sets to at run
+pasted to run at h = rw (drop-drop (length run) at to) (sym (sets-eq run to at h ∙ append_assoc (take at to) run (drop (at + length run) to)))

@@ -15,16 +15,16 @@ use Rattle.crc.proofs.Fold.{fold, started, eight_more, eight_fits}
 use Rattle.crc.proofs.crc_of.Statement.{statement}
 use Rattle.crc.proofs.crc_of.Tie as tie
 
-abbrev invariant-loop : tie.invariant-loop
+abbrev invariant-loop : tie.invariant-loop-i
 invariant-loop bytes s₀ i₀ s i = (i ≤ length bytes) × (s < 2 ^ 64) × (crc_from (fold s) (drop i bytes) ≡ crc_of bytes)
 
-abbrev decreases-loop : tie.decreases-loop
+abbrev decreases-loop : tie.decreases-loop-i
 decreases-loop bytes s₀ i₀ s i = length bytes - i
 
-abbrev invariant-loop2 : tie.invariant-loop2
+abbrev invariant-loop2 : tie.invariant-loop-i-2
 invariant-loop2 bytes s i₀ c₀ i c = (i ≤ length bytes) × (crc_from c (drop i bytes) ≡ crc_of bytes)
 
-abbrev decreases-loop2 : tie.decreases-loop2
+abbrev decreases-loop2 : tie.decreases-loop-i-2
 decreases-loop2 bytes s i₀ c₀ i c = length bytes - i
 
 pub crc_of_spec : {M : Type 1} → statement M
@@ -34,31 +34,31 @@ crc_of_spec =
     (tie.spec invariant-loop decreases-loop invariant-loop2 decreases-loop2 (λ c. (search rules, omega arith, rw started)) (λ c. search rules) (λ c. search rules)
     (λ c. search rules) (λ c. search rules) (λ c. search rules)
     (λ c κs.
-    let eight : (c.before.before.loop.i + 8) - c.before.before.loop.i ≡ 8 = omega arith in
+    let eight : (c.loop-i.i + 8) - c.loop-i.i ≡ 8 = omega arith in
     rw (eight, length-take, length-drop) (min-eq_left (search rules))) (λ c. search rules) (λ c. search rules)
     (λ c.
-    let at = c.before.before.before.loop in
-    let bytes = c.before.before.before.before.before.args.bytes.now in
+    let at = c.loop-i in
+    let bytes = c.args.bytes.now in
     let eight : (at.i + 8) - at.i ≡ 8 = omega arith in
     let word : crc_bytes 8 c.word_of.result ≡ take 8 (drop at.i bytes) = rw eight at c.word_of.ensures in
     let told = eight_more at.s c.word_of.result at.invariant.1 ∙ ap (crc_from (fold at.s)) word in
     (search rules, eight_fits at.s c.word_of.result at.invariant.1 (search rules), ap (λ (x : ℕ). crc_from x (drop (at.i + 8) bytes)) told ∙ sym (more 8 (fold at.s) bytes at.i) ∙ at.invariant.2))
-    (λ c κs. search rules) (λ c. (search rules, rw c.fold-of.ensures c.before.before.loop.invariant.2)) (λ c. search rules)
+    (λ c κs. search rules) (λ c. (search rules, rw c.fold_of-c.ensures c.loop-i.invariant.2)) (λ c. search rules)
     (λ c. search rules) (λ c. search rules) (λ c. search rules) (λ c κs. search rules) (λ c. search rules) (λ c. search rules)
     (λ c.
-    let at = c.before.before.before.before.loop2 in
-    let bytes = c.before.before.before.before.before.before.before.before.before.args.bytes.now in
-    let both : c.pair.result ≡ crc_from at.c (places 2 at.i bytes) = rw add-one at c.pair.ensures in (
+    let at = c.loop-i-2 in
+    let bytes = c.args.bytes.now in
+    let both : c.pair-c.result ≡ crc_from at.c (places 2 at.i bytes) = rw add-one at c.pair-c.ensures in (
       search rules,
       ap (λ (x : ℕ). crc_from x (drop (at.i + 2) bytes)) (both ∙ ap (crc_from at.c) (places_are 2 at.i bytes (search rules)))
           ∙ sym (more 2 at.c bytes at.i) ∙ at.invariant.1,
     )) (λ c. search rules) (λ c κs. search rules)
     (λ c.
-    let at = c.before.before.before.before.loop2 in
-    let bytes = c.before.before.before.before.before.before.before.before.before.args.bytes.now in
+    let at = c.loop-i-2 in
+    let bytes = c.args.bytes.now in
     let end : drop (at.i + 1) bytes ≡ [] = drop_of_length-le bytes {i = at.i + 1} (search rules) in
     let last = rw (end, from-none) at (more 1 at.c bytes at.i) in
     c.one.ensures ∙ ap (crc_from at.c) (places_are 1 at.i bytes (search rules)) ∙ sym last ∙ at.invariant.1)
     (λ c.
-    let end : length c.before.before.before.before.before.before.before.args.bytes.now ≤ c.before.before.loop2.i = search rules in
-    rw (drop_of_length-le, from-none) at c.before.before.loop2.invariant.1))
+    let end : length c.args.bytes.now ≤ c.loop-i-2.i = search rules in
+    rw (drop_of_length-le, from-none) at c.loop-i-2.invariant.1))

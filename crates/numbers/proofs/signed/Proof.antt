@@ -13,12 +13,16 @@ use Rattle.numbers.proofs.signed.Tie as tie
 pub signed_spec : {M : Type 1} → statement M
 signed_spec =
     tie.close
-    (tie.spec (λ c. search rules) (λ c. search rules) (λ c. rw (less c.before.args.u (search rules)) (record { sfits = omega arith }))
+    (tie.spec
+    (λ c. search rules)
+    (λ c. search rules)
+    (λ c. rw (less c.args.u (search rules)) (record { sfits = omega arith }))
     (λ c.
-    let u = c.before.args.u in
+    let u = c.args.u in
     rw (less u (search rules), to_z-of_z {w = w64} {z = negsuc (0x1_0000_0000 - suc u)} (record { sfits = omega arith }))
-    (record { sfits = omega arith })) (λ c. to_z_pos w32 c.if1.true ∙ sym (low_is 4 c.before.args.u c.if1.true))
+    (record { sfits = omega arith }))
+    (λ c. to_z_pos w32 c.if-u-lt2147483648.true ∙ sym (low_is 4 c.args.u c.if-u-lt2147483648.true))
     (λ c.
-    let u = c.before.args.u in
+    let u = c.args.u in
     rw (less u (search rules), to_z-of_z {w = w64} {z = negsuc (0x1_0000_0000 - suc u)} (record { sfits = omega arith }), to_z-of_z {w = w32} {z = negsuc (0x1_0000_0000 - suc u)} (record { sfits = omega arith }))
-    (sym (high_is 4 u c.if1.false))))
+    (sym (high_is 4 u c.if-u-lt2147483648.false))))

@@ -14,32 +14,33 @@ use Rattle.numbers.proofs.unsigned.Tie as tie
 wide_back : (v : ℤ) → SFits w32 v → to_z w64 (of_z w64 (to_z w32 (of_z w32 v))) ≡ v
 wide_back v f = rw (to_z-of_z {w = w32} {z = v} f) (to_z-of_z {w = w64} {z = v} (sfits_widen tt f))
 
-summed : (c : tie.Then1) → to_z w64 (of_z w64 (to_z w32 (of_z w32 c.before.args.v))) +ℤ pos 0x1_0000_0000 ≡ pos (unsigned_of 4 c.before.args.v)
+summed : (c : tie.Then-v-lt0) → to_z w64 (of_z w64 (to_z w32 (of_z w32 c.args.v))) +ℤ pos 0x1_0000_0000 ≡ pos (unsigned_of 4 c.args.v)
 summed c =
-    let v = c.before.args.v in
-    let f = c.before.ranges.v in
-    ap (λ (z : ℤ). z +ℤ pos 0x1_0000_0000) (wide_back v f) ∙ more v f (rw (to_z-of_z {w = w32} {z = v} f) at c.if1.true)
+    let v = c.args.v in
+    let f = c.ranges.v in
+    ap (λ (z : ℤ). z +ℤ pos 0x1_0000_0000) (wide_back v f) ∙ more v f (rw (to_z-of_z {w = w32} {z = v} f) at c.if-v-lt0.true)
 
-summed-back : (c : tie.Then1) → to_z w64 (of_z w64 (to_z w64 (of_z w64 (to_z w32 (of_z w32 c.before.args.v))) +ℤ pos 0x1_0000_0000)) ≡ pos (unsigned_of 4 c.before.args.v)
+summed-back : (c : tie.Then-v-lt0) → to_z w64 (of_z w64 (to_z w64 (of_z w64 (to_z w32 (of_z w32 c.args.v))) +ℤ pos 0x1_0000_0000)) ≡ pos (unsigned_of 4 c.args.v)
 summed-back c =
-    let v = c.before.args.v in
+    let v = c.args.v in
     ap (λ (z : ℤ). to_z w64 (of_z w64 z)) (summed c)
-    ∙ to_z-of_z {w = w64} {z = pos (unsigned_of 4 v)} (record { sfits = omega (arith, unsigned_below 3 v c.before.ranges.v.sfits) })
+    ∙ to_z-of_z {w = w64} {z = pos (unsigned_of 4 v)} (record { sfits = omega (arith, unsigned_below 3 v c.ranges.v.sfits) })
 
-plain : (c : tie.Else1) → to_z w32 (of_z w32 c.before.args.v) ≡ pos (unsigned_of 4 c.before.args.v)
+plain : (c : tie.Else-v-lt0) → to_z w32 (of_z w32 c.args.v) ≡ pos (unsigned_of 4 c.args.v)
 plain c =
-    let v = c.before.args.v in
-    let e = to_z-of_z {w = w32} {z = v} c.before.ranges.v in
-    e ∙ same v (rw e at c.if1.false)
+    let v = c.args.v in
+    let e = to_z-of_z {w = w32} {z = v} c.ranges.v in
+    e ∙ same v (rw e at c.if-v-lt0.false)
 
 pub unsigned_spec : {M : Type 1} → statement M
 unsigned_spec =
     tie.close
     (tie.spec
     (λ c.
-    let v = c.before.args.v in
-    rw (to_z-of_z {w = w32} {z = v} c.before.ranges.v) (sfits_widen tt c.before.ranges.v))
-    (λ c. rw (summed c) (record { sfits = omega (arith, unsigned_below 3 c.before.args.v c.before.ranges.v.sfits) }))
-    (λ c. rw (summed-back c) (tt, record { fits = unsigned_below 3 c.before.args.v c.before.ranges.v.sfits }))
-    (λ c. rw (plain c) (tt, record { fits = unsigned_below 3 c.before.args.v c.before.ranges.v.sfits })) (λ c. rw (summed-back c))
+    let v = c.args.v in
+    rw (to_z-of_z {w = w32} {z = v} c.ranges.v) (sfits_widen tt c.ranges.v))
+    (λ c. rw (summed c) (record { sfits = omega (arith, unsigned_below 3 c.args.v c.ranges.v.sfits) }))
+    (λ c. rw (summed-back c) (tt, record { fits = unsigned_below 3 c.args.v c.ranges.v.sfits }))
+    (λ c. rw (plain c) (tt, record { fits = unsigned_below 3 c.args.v c.ranges.v.sfits }))
+    (λ c. rw (summed-back c))
     (λ c. rw (plain c)))

@@ -39,39 +39,49 @@ module _ (i : ℕ) (h : i < 12) where
   left-no : (get_or param_rows i no_param_row).asked ≡ false → left i ≡ left (i + 1)
   left-no e = fails asked param_ids i h (row_of ∙ e)
 
-abbrev invariant-loop : tie.invariant-loop
+abbrev invariant-loop : tie.invariant-loop-i
 invariant-loop table out₀ n₀ i₀ out n i = (table ≡ param_rows) × (i ≤ 12) × (n + length (left i) ≤ 5) × (sets out n (left i) ≡ start_params.missing)
 
-abbrev decreases-loop : tie.decreases-loop
+abbrev decreases-loop : tie.decreases-loop-i
 decreases-loop table out₀ n₀ i₀ out n i = 12 - i
 
 -- where an id is stored there is room for it
-room : (c : tie.Then1 invariant-loop decreases-loop) → c.before.before.before.loop.n < 8
+room : (c : tie.Then-r invariant-loop decreases-loop) → c.loop-i.n < 8
 room c =
-    let at = c.before.before.before.loop in
-    let asked : (get_or param_rows at.i no_param_row).asked ≡ true = c.if1.true in
+    let at = c.loop-i in
+    let asked : (get_or param_rows at.i no_param_row).asked ≡ true = c.if-r.true in
     omega (arith, rw (left-yes at.i (search rules) asked) at at.invariant.2)
 
 pub asked_ids_spec : {M : Type 1} → statement M
 unfolding passing filter start_params
 asked_ids_spec =
     tie.close
-    (tie.spec invariant-loop decreases-loop (λ c. (refl, search rules, search rules, refl)) (λ c. search rules) (λ c. search rules) (λ c. search rules)
-    (λ c. search rules) (λ c. room c) (λ c. omega (arith, room c)) (λ c. search rules) (λ c. search rules)
+    (tie.spec
+    invariant-loop
+    decreases-loop
+    (λ c. (refl, search rules, search rules, refl))
+    (λ c. search rules)
+    (λ c. search rules)
+    (λ c. search rules)
+    (λ c. search rules)
+    (λ c. room c)
+    (λ c. omega (arith, room c))
+    (λ c. search rules)
+    (λ c. search rules)
     (λ c.
-    let at = c.before.before.before.loop in
+    let at = c.loop-i in
     ⊎_elim
     (λ w.
-    let asked : (get_or param_rows at.i no_param_row).asked ≡ true = w.0.taken in
+    let asked : (get_or param_rows at.i no_param_row).asked ≡ true = w.if-r.true in
     let rest = left-yes at.i (search rules) asked in
     let turn = rw rest at at.invariant.3 in
-    let more : c.if1.n ≡ suc at.n = omega arith in
+    let more : c.if-r.n ≡ suc at.n = omega arith in
     (search rules, search rules, omega (arith, rw rest at at.invariant.2), cc))
     (λ w.
-    let other : (get_or param_rows at.i no_param_row).asked ≡ false = w.0.left in
+    let other : (get_or param_rows at.i no_param_row).asked ≡ false = w.if-r.false in
     let rest = left-no at.i (search rules) other in
     (search rules, search rules, omega (arith, rw rest at at.invariant.2), cc))
-    c.if1.branch)
+    c.if-r.branch-raw)
     (λ c.
-    let last : c.before.loop.i ≡ 12 = omega arith in
-    rw last at c.before.loop.invariant.3))
+    let last : c.loop-i.i ≡ 12 = omega arith in
+    rw last at c.loop-i.invariant.3))

@@ -11,8 +11,13 @@ use Rattle.params.proofs.in_bounds.Tie as tie
 pub in_bounds_spec : {M : Type 1} → statement M
 in_bounds_spec =
     tie.close
-    (tie.spec (λ c. search rules) (λ c κs. search rules) (λ c κs. search rules)
+    (tie.spec
+    (λ c. search rules)
+    (λ c κs. search rules)
+    (λ c κs. search rules)
     (λ c.
-    let a = c.before.before.before.before.args in
+    let a = c.args in
     let back : to_z w32 (of_z w32 a.value) ≡ a.value = search rules in
-    rw (within_id a.id (omega arith) (omega arith)) (cc)) (λ c. rw (under_no_id _ c.if1.true)) (λ c. rw (over_no_id _ c.if2.false)))
+    rw (within_id a.id (omega arith) (omega arith)) (cc))
+    (λ c. rw (under_no_id c.args.id (omega arith)))
+    (λ c. rw (over_no_id c.args.id (omega arith))))

@@ -27,28 +27,39 @@ module _ (ok : Bool) (vs : List ℤ) where
   unfolding in_rows
   end h = rw (drop_of_length-le vs h) (and-true ok)
 
-abbrev invariant-loop : tie.invariant-loop
+abbrev invariant-loop : tie.invariant-loop-i
 invariant-loop p table ok₀ i₀ ok i = (table ≡ param_rows) × (i ≤ 12) × (ok && in_rows (drop i param_rows) (drop i p.values) ≡ in_rows param_rows p.values)
 
-abbrev decreases-loop : tie.decreases-loop
+abbrev decreases-loop : tie.decreases-loop-i
 decreases-loop p table ok₀ i₀ ok i = 12 - i
 
 pub sound_spec : {M : Type 1} → statement M
 unfolding sound_params
 sound_spec =
     tie.close
-    (tie.spec invariant-loop decreases-loop (λ c. search rules) (λ c. search rules) (λ c. search rules) (λ c. search rules) (λ c. search rules)
-    (λ c κs. search rules) (λ c. search rules) (λ c. search rules)
+    (tie.spec
+    invariant-loop
+    decreases-loop
+    (λ c. search rules)
+    (λ c. search rules)
+    (λ c. search rules)
+    (λ c. search rules)
+    (λ c. search rules)
+    (λ c κs. search rules)
+    (λ c. search rules)
+    (λ c. search rules)
     (λ c.
-    let at = c.before.before.before.before.loop in
-    let vs = c.before.before.before.before.before.args.t1.values in
+    let at = c.loop-i in
+    let vs = c.args.p.values in
     let back : to_z w32 (of_z w32 (get_or vs at.i (pos 0))) ≡ get_or vs at.i (pos 0) = search rules in
     let turn = next at.ok vs at.i (search rules) (search rules) in
-    (search rules, search rules, cc)) (λ c κs. search rules) (λ c κs. search rules)
+    (search rules, search rules, cc))
+    (λ c κs. search rules)
+    (λ c κs. search rules)
     (λ c.
-    let at = c.before.before.before.loop in
-    let vs = c.before.before.before.before.args.t1.values in
+    let at = c.loop-i in
+    let vs = c.args.p.values in
     let last : at.i ≡ 12 = omega arith in
-    let twelve : length vs ≤ 12 = omega (arith, length-map vs (λ v. v), c.before.before.before.before.well-formed.0.1.1.0.1.0.1) in
+    let twelve : length vs ≤ 12 = omega (arith, length-map vs (λ v. v), c.well_formed.0.1.1.0.1.0.1) in
     let all = end at.ok vs twelve in
     cc))

@@ -8,8 +8,12 @@ use Rattle.params.proofs.value.Tie as tie
 pub value_spec : {M : Type 1} → statement M
 value_spec =
     tie.close
-    (tie.spec (λ c. search rules) (λ c. search rules) (λ c. search rules)
+    (tie.spec
+    (λ c. search rules)
+    (λ c. search rules)
+    (λ c. search rules)
     (λ c.
-    let id = c.before.before.before.args.id in
-    rw (id_held _ id (within_id id (omega arith) (omega arith))) (search rules)) (λ c. rw (no_id_unknown _ _ (under_no_id _ c.if1.true)))
-    (λ c. rw (no_id_unknown _ _ (over_no_id _ c.if2.false))))
+    let id = c.args.id in
+    rw (id_held _ id (within_id id (omega arith) (omega arith))) (search rules))
+    (λ c. rw (no_id_unknown _ _ (under_no_id c.args.id (omega arith))))
+    (λ c. rw (no_id_unknown _ _ (over_no_id c.args.id (omega arith)))))

@@ -14,6 +14,8 @@ unfolding sent_packet
 shown_spec =
     tie.close
     (tie.spec
-    (λ c. let o = c.before.args.t1 in let none : held_out o ≡ [] = none_out o (search rules) (omega arith) in rw none)
-    (λ c. search rules) (λ c. search rules) (λ c. search rules)
-    (λ c. let o = c.before.before.args.t1 in rw (shown-out o (search rules) (omega arith) (search rules))))
+    (λ c. let o = c.args.output in let none : held_out o ≡ [] = none_out o (search rules) (omega arith) in rw none)
+    (λ c. search rules)
+    (λ c. search rules)
+    (λ c. search rules)
+    (λ c. let o = c.args.output in rw (shown-out o (search rules) (omega arith) (search rules))))

@@ -10,5 +10,5 @@ unfolding order_heard
 heard_spec =
     tie.close
     (tie.spec (λ c κs. search rules) (λ c κs. search rules)
-    (λ c. ap order_said (c.order.ensures ∙ ap order_of c.before.parts.ensures ∙ simp c.before.before.if1.true))
-    (λ c. ap order_said (simp c.if1.false)))
+    (λ c. ap order_said (c.order.ensures ∙ ap order_of c.parts.ensures ∙ simp c.if-on.true))
+    (λ c. ap order_said (simp c.if-on.false)))

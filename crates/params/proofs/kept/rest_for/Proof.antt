@@ -19,7 +19,8 @@ pub rest_for_spec : {M : Type 1} → statement M
 unfolding low_first list_for list_by
 rest_for_spec =
     tie.close
-    (tie.spec (λ c. rw c.match.keys1)
+    (tie.spec
+    (λ c. rw c.in-0.is)
     (λ c.
-    let k = c.before.args.k in
-    sym (eqb-true (low_first (places (list_for k) 4 4)) 0 (rw (ne_eqb k 0 c.match.rest.1) at (every-at short 32 k refl (search rules))))))
+    let k = c.args.k in
+    sym (eqb-true (low_first (places (list_for k) 4 4)) 0 (rw (ne_eqb k 0 c.in_default.in_default-own.rest.1) at (every-at short 32 k refl (search rules))))))

@@ -23,34 +23,41 @@ first : (id : ℕ) (l : List ℕ) → sets (replicate 8 0) 0 (passing (other id)
 unfolding passing struck
 first id l = refl
 
-abbrev invariant-loop : tie.invariant-loop
+abbrev invariant-loop : tie.invariant-loop-i
 invariant-loop id list out₀ n₀ i₀ out n i = (i ≤ 8) × (n ≤ i) × (sets out n (passing (other id) list i) ≡ struck id list)
 
-abbrev decreases-loop : tie.decreases-loop
+abbrev decreases-loop : tie.decreases-loop-i
 decreases-loop id list out₀ n₀ i₀ out n i = 8 - i
 
 pub struck_spec : {M : Type 1} → statement M
 struck_spec =
     tie.close
-    (tie.spec invariant-loop decreases-loop (λ c. (search rules, search rules, first c.args.id c.args.t1)) (λ c. search rules) (λ c. search rules)
-    (λ c. search rules) (λ c. search rules) (λ c. search rules)
+    (tie.spec
+    invariant-loop
+    decreases-loop
+    (λ c. (search rules, search rules, first c.args.id c.args.list))
+    (λ c. search rules)
+    (λ c. search rules)
+    (λ c. search rules)
+    (λ c. search rules)
+    (λ c. search rules)
     (λ c.
-    let at = c.before.before.loop in
-    let a = c.before.before.before.args in
-    let within : at.i < length a.t1 = search rules in
+    let at = c.loop-i in
+    let a = c.args in
+    let within : at.i < length a.list = search rules in
     ⊎_elim
     (λ w.
-    let stays : other a.id (get_or a.t1 at.i 0) ≡ true = rw (ne_eqb (get_or a.t1 at.i 0) a.id w.0.taken) in
-    let turn = rw (passes (other a.id) a.t1 at.i within stays) at at.invariant.2 in
-    let more : c.if1.n ≡ suc at.n = omega arith in
+    let stays : other a.id (get_or a.list at.i 0) ≡ true = rw (ne_eqb (get_or a.list at.i 0) a.id w.if-k-id.true) in
+    let turn = rw (passes (other a.id) a.list at.i within stays) at at.invariant.2 in
+    let more : c.if-k-id.n ≡ suc at.n = omega arith in
     (search rules, omega arith, cc))
     (λ w.
-    let goes : other a.id (get_or a.t1 at.i 0) ≡ false = rw (eq-eqb (get_or a.t1 at.i 0) a.id w.0.left) in
-    let turn = rw (fails (other a.id) a.t1 at.i within goes) at at.invariant.2 in
+    let goes : other a.id (get_or a.list at.i 0) ≡ false = rw (eq-eqb (get_or a.list at.i 0) a.id w.if-k-id.false) in
+    let turn = rw (fails (other a.id) a.list at.i within goes) at at.invariant.2 in
     (search rules, omega arith, cc))
-    c.if1.branch)
+    c.if-k-id.branch-raw)
     (λ c.
-    let at = c.before.loop in
-    let a = c.before.before.args in
-    let short : length a.t1 ≤ at.i = search rules in
-    rw (none_left (other a.id) a.t1 at.i short) at at.invariant.2))
+    let at = c.loop-i in
+    let a = c.args in
+    let short : length a.list ≤ at.i = search rules in
+    rw (none_left (other a.id) a.list at.i short) at at.invariant.2))

@@ -14,13 +14,18 @@ pub byte_spec : {M : Type 1} → statement M
 unfolding gathers held_in
 byte_spec =
     tie.close
-    (tie.spec (λ c. search rules) (λ c. search rules) (λ c κs. search rules) (λ c κs. search rules) (λ c κs. search rules)
+    (tie.spec
+    (λ c. search rules)
+    (λ c. search rules)
+    (λ c κs. search rules)
+    (λ c κs. search rules)
+    (λ c κs. search rules)
     (λ c.
-    let args = c.before.before.before.args in
-    cc (byte_gathers args.t1 args.b (omega arith)))
+    let args = c.args in
+    cc (byte_gathers args.self args.b (omega arith)))
     (λ c.
-    let args = c.before.before.before.before.args in
-    let at : args.t1.gathered ≡ 7 = omega arith in
-    let all : take 8 (set args.t1.bytes 7 args.b) ≡ take 7 args.t1.bytes ++ (args.b ∷ []) =
-    take-suc-set args.t1.bytes 7 args.b (search rules) in
-    cc (byte_sends args.t1 args.b (omega arith))))
+    let args = c.args in
+    let at : args.self.gathered ≡ 7 = omega arith in
+    let all : take 8 (set args.self.bytes 7 args.b) ≡ take 7 args.self.bytes ++ (args.b ∷ []) =
+    take-suc-set args.self.bytes 7 args.b (search rules) in
+    cc (byte_sends args.self args.b (omega arith))))

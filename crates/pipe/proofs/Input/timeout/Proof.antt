@@ -10,8 +10,12 @@ pub timeout_spec : {M : Type 1} → statement M
 unfolding held_in
 timeout_spec =
     tie.close
-    (tie.spec (λ c κs. search rules) (λ c. cc (timeout_idle c.before.before.before.args.self (omega arith))) (λ c κs. search rules)
-    (λ c κs. search rules) (λ c κs. search rules)
+    (tie.spec
+    (λ c κs. search rules)
+    (λ c. cc (timeout_idle c.args.self (omega arith)))
+    (λ c κs. search rules)
+    (λ c κs. search rules)
+    (λ c κs. search rules)
     (λ c.
-    let self = c.before.before.before.before.before.args.self in
+    let self = c.args.self in
     cc (timeout_sends self (omega arith))))

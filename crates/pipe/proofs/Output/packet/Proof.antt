@@ -6,4 +6,6 @@ use Rattle.pipe.proofs.Output.packet.Tie as tie
 
 pub packet_spec : {M : Type 1} → statement M
 unfolding output_packet
-packet_spec = tie.close (tie.spec (λ c κs. search rules) (λ c. cc c.shown.ensures))
+packet_spec = tie.close (tie.spec
+    (λ c κs. search rules)
+    (λ c. cc c.shown.ensures))

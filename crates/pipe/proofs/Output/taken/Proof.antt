@@ -10,6 +10,9 @@ pub taken_spec : {M : Type 1} → statement M
 unfolding output_taken
 taken_spec =
     tie.close
-    (tie.spec (λ c κs. search rules)
-    (λ c. let o = c.before.before.before.args.self in cc (taken_none o (omega arith), c.shown.ensures))
-    (λ c. search rules) (λ c κs. search rules) (λ c. cc c.shown2.ensures))
+    (tie.spec
+    (λ c κs. search rules)
+    (λ c. let o = c.args.self in cc (taken_none o (omega arith), c.shown.ensures))
+    (λ c. search rules)
+    (λ c κs. search rules)
+    (λ c. cc c.shown-2.ensures))

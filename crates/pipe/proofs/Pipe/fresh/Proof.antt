@@ -6,4 +6,7 @@ use Rattle.pipe.proofs.Pipe.fresh.Tie as tie
 
 pub fresh_spec : {M : Type 1} → statement M
 unfolding fresh_pipe
-fresh_spec = tie.close (tie.spec (λ c κs. search rules) (λ c κs. search rules) (λ c. cc (c.fresh2.ensures, c.before.fresh.ensures)))
+fresh_spec = tie.close (tie.spec
+    (λ c κs. search rules)
+    (λ c κs. search rules)
+    (λ c. cc (c.fresh-2.ensures, c.fresh.ensures)))
