@@ -12,10 +12,10 @@ use Rattle.frames.proofs.Sums.{sums_of, sums_at, length_sums, sum_more, sum-most
 use Rattle.frames.proofs.add_pass.Statement.{statement}
 use Rattle.frames.proofs.add_pass.Tie as tie
 
-abbrev invariant-loop : tie.invariant-loop
+abbrev invariant-loop : tie.invariant-loop-c
 invariant-loop samples p out₀ c₀ out c = (c ≤ 8) × (out ≡ mixed (sums_of (p + 1) samples) (sums_of p samples) c)
 
-abbrev decreases-loop : tie.decreases-loop
+abbrev decreases-loop : tie.decreases-loop-c
 decreases-loop samples p out₀ c₀ out c = 8 - c
 
 -- the sum that stands at a channel before its turn
@@ -25,28 +25,39 @@ held xs p c h = mixed-at (sums_of (p + 1) xs) (sums_of p xs) 8 (length_sums (p +
 pub add_pass_spec : {M : Type 1} → statement M
 add_pass_spec =
     tie.close
-    (tie.spec invariant-loop decreases-loop (λ c. (search rules, c.requires.3)) (λ c. search rules) (λ c. search rules) (λ c. search rules) (λ c. search rules)
-    (λ c. search rules) (λ c. search rules)
+    (tie.spec
+    invariant-loop
+    decreases-loop
+    (λ c. (search rules, c.requires.3))
+    (λ c. search rules)
+    (λ c. search rules)
+    (λ c. search rules)
+    (λ c. search rules)
+    (λ c. search rules)
+    (λ c. search rules)
     (λ c.
-    let args = c.before.before.before.args in
+    let args = c.args in
     let xs = args.samples.now in
-    let i = c.before.before.loop.c in
-    let pre = c.before.before.before.requires in
+    let i = c.loop-c.c in
+    let pre = c.requires in
     let was = held xs args.p i (search rules) in
-    let now : get_or c.before.before.loop.out i 0 ≡ sum_of args.p xs i = cc in
-    omega (arith, sum-most args.p xs i pre.1, each_bounded xs (args.p * 8 + i) pre.1, pre.2)) (λ c. search rules) (λ c. search rules)
-    (λ c. search rules) (λ c. search rules)
+    let now : get_or c.loop-c.out i 0 ≡ sum_of args.p xs i = cc in
+    omega (arith, sum-most args.p xs i pre.1, each_bounded xs (args.p * 8 + i) pre.1, pre.2))
+    (λ c. search rules)
+    (λ c. search rules)
+    (λ c. search rules)
+    (λ c. search rules)
     (λ c.
-    let args = c.before.before.before.args in
+    let args = c.args in
     let xs = args.samples.now in
     let p = args.p in
-    let i = c.before.before.loop.c in
+    let i = c.loop-c.c in
     let here : i < 8 = search rules in
     let next : set (mixed (sums_of (p + 1) xs) (sums_of p xs) i) i (sum_of p xs i + get_or xs (p * 8 + i) 0) ≡ mixed (sums_of (p + 1) xs) (sums_of p xs) (i + 1) =
     mixed_more (sums_of (p + 1) xs) (sums_of p xs) 8 (length_sums (p + 1) xs) (length_sums p xs) i _ here (sym (sums_at (p + 1) xs i here ∙ sum_more p xs i)) in
     (search rules, cc (held xs p i here)))
     (λ c.
-    let args = c.before.before.args in
+    let args = c.args in
     let xs = args.samples.now in
-    let end : c.before.loop.c ≡ 8 = omega arith in
+    let end : c.loop-c.c ≡ 8 = omega arith in
     cc (mixed-all (sums_of (args.p + 1) xs) (sums_of args.p xs) 8 (length_sums (args.p + 1) xs) (length_sums args.p xs))))

@@ -8,25 +8,49 @@ use Rattle.frames.proofs.three.Tie as tie
 pub three_spec : {M : Type 1} → statement M
 three_spec =
     tie.close
-    (tie.spec (λ c. search rules) (λ c. search rules) (λ c. search rules) (λ c κs. search rules) (λ c κs. search rules) (λ c κs. search rules)
-    (λ c. search rules) (λ c. search rules) (λ c κs. search rules) (λ c. search rules) (λ c. search rules) (λ c κs. search rules) (λ c κs. search rules)
-    (λ c κs. search rules) (λ c. search rules) (λ c κs. search rules) (λ c. search rules) (λ c. search rules) (λ c. search rules) (λ c κs. search rules)
-    (λ c. search rules) (λ c. search rules) (λ c κs. search rules) (λ c. search rules) (λ c. search rules) (λ c κs. search rules) (λ c. search rules)
+    (tie.spec
+    (λ c. search rules)
+    (λ c. search rules)
+    (λ c. search rules)
+    (λ c κs. search rules)
+    (λ c κs. search rules)
+    (λ c κs. search rules)
+    (λ c. search rules)
+    (λ c. search rules)
+    (λ c κs. search rules)
+    (λ c. search rules)
+    (λ c. search rules)
+    (λ c κs. search rules)
+    (λ c κs. search rules)
+    (λ c κs. search rules)
+    (λ c. search rules)
+    (λ c κs. search rules)
+    (λ c. search rules)
+    (λ c. search rules)
+    (λ c. search rules)
+    (λ c κs. search rules)
+    (λ c. search rules)
+    (λ c. search rules)
+    (λ c κs. search rules)
+    (λ c. search rules)
+    (λ c. search rules)
+    (λ c κs. search rules)
+    (λ c. search rules)
     (λ c.
-    let shown = c.before.before.before in
-    let gathered = shown.before.before.before.before.before in
-    let args = gathered.before.before.before.before.before.args in
+    let shown = c.before in
+    let gathered = shown.before in
+    let args = gathered.args in
     rw (
-      gathered.before.before.low.ensures,
-      gathered.bit-of.ensures.0,
-      gathered.before.gathering.ensures,
-      shown.before.before.before.before.high.ensures,
-      shown.before.before.before.low2.ensures,
-      shown.before.bit-of2.ensures.0,
-      shown.before.before.busy.ensures,
-      shown.bit-of3.ensures.0,
-      c.before.before.high2.ensures,
-      c.before.low3.ensures,
-      c.high3.ensures,
+      gathered.low.ensures,
+      gathered.bit_of.ensures.0,
+      gathered.gathering.ensures,
+      shown.high.ensures,
+      shown.low-2.ensures,
+      shown.bit_of-2.ensures.0,
+      shown.busy.ensures,
+      shown.bit_of-3.ensures.0,
+      c.high-2.ensures,
+      c.low-3.ensures,
+      c.high-3.ensures,
     )
     (sym (bytes_03 args.t1 args.pipe args.initialised args.selfcheck))))

@@ -12,9 +12,12 @@ pub close_spec : {M : Type 1} → statement M
 unfolding close_of
 close_spec =
     tie.close
-    (tie.spec (λ c κs. search rules) (λ c κs. search rules) (λ c κs. search rules)
+    (tie.spec
+    (λ c κs. search rules)
+    (λ c κs. search rules)
+    (λ c κs. search rules)
     (λ c.
-    let w = c.before.before.before.before.args.w in
-    let shown = ap not c.before.before.before.idle.ensures ∙ not-not (is_open w.transfer) in
-    c.with-transfer.ensures
-    ∙ ap (with_transfer Idle) (c.before.with-error.ensures ∙ ap (λ (b : Bool). with_error (w.error || b) w) shown)))
+    let w = c.args.w in
+    let shown = ap not c.idle.ensures ∙ not-not (is_open w.transfer) in
+    c.with_transfer.ensures
+    ∙ ap (with_transfer Idle) (c.with_error.ensures ∙ ap (λ (b : Bool). with_error (w.error || b) w) shown)))

@@ -17,31 +17,46 @@ lent : (c : tie.Start) → List ℕ → Desk
 lent c l = desk (three c.args.five.now c.args.six.now c.args.seven.now) l
 
 -- an order that was heard is obeyed by the state that is closed
-heard_as : (c : tie.After-heard) (o : Order) → c.heard.result ≡ o → (l : List ℕ)
-    → tabled (order_obeyed o c.before.close.result) (desk (tables_after o (lent c.before.before.before.before.before l).tables) l)
-    ≡ command_of c.before.before.before.before.before.args.on c.before.before.before.before.before.args.word
-    (tabled c.before.before.before.before.before.args.w (lent c.before.before.before.before.before l))
+heard_as : (c : tie.After-heard-order) (o : Order) → c.heard-order.result ≡ o → (l : List ℕ)
+    → tabled (order_obeyed o c.close-closed.result) (desk (tables_after o (lent c.before.before.before.before.before l).tables) l)
+    ≡ command_of c.args.on c.args.word
+    (tabled c.args.w (lent c.before.before.before.before.before l))
 unfolding lent
 heard_as c o e l =
-    let s = c.before.before.before.before.before in
-    beside _ (ap (order_obeyed o) c.before.close.ensures)
-    ∙ sym (obeyed o s.args.on s.args.word (tabled s.args.w (lent s l)) (sym (order_said_one _ _ c.heard.ensures) ∙ e))
+    let s = c.before in
+    beside _ (ap (order_obeyed o) c.close-closed.ensures)
+    ∙ sym (obeyed o s.args.on s.args.word (tabled s.args.w (lent s l)) (sym (order_said_one _ _ c.heard-order.ensures) ∙ e))
 
 pub command_spec : {M : Type 1} → statement M
 unfolding lent order_obeyed tables_after
 command_spec =
     tie.close
-    (tie.spec (λ c κs. search rules) (λ c κs. search rules) (λ c. search rules) (λ c κs. search rules) (λ c. search rules) (λ c. search rules)
-    (λ c κs. search rules) (λ c κs. search rules) (λ c. search rules) (λ c κs. search rules) (λ c. search rules) (λ c κs. search rules)
-    (λ c. search rules) (λ c κs. search rules)
-    (λ c. λ l. beside _ c.with-error.ensures ∙ heard_as c.before.before.before _ c.before.enum_told.given.1 l)
-    (λ c. λ l. heard_as c.before.before _ c.enum-told2.given.1 l) (λ c. search rules) (λ c. search rules) (λ c. search rules)
+    (tie.spec
+    (λ c κs. search rules)
+    (λ c κs. search rules)
+    (λ c. search rules)
+    (λ c κs. search rules)
+    (λ c. search rules)
+    (λ c. search rules)
+    (λ c κs. search rules)
+    (λ c κs. search rules)
+    (λ c. search rules)
+    (λ c κs. search rules)
+    (λ c. search rules)
+    (λ c κs. search rules)
+    (λ c. search rules)
+    (λ c κs. search rules)
+    (λ c. λ l. beside _ c.with_error.ensures ∙ heard_as c.before.before.before _ c.in-Other.is l)
+    (λ c. λ l. heard_as c.before.before _ c.in-Stop.is l)
+    (λ c. search rules)
+    (λ c. search rules)
+    (λ c. search rules)
     (λ c.
     λ l.
-    let p = c.before.before.before.before.before.before.before in
-    let m = p.before.before.before.before in
-    ap₂ (λ (w : Words) (s : Three). tabled w (desk s l)) c.restarted.ensures p.to-starts.ensures
-    ∙ heard_as m.before.before _ m.enum-told3.given.1 l)
-    (λ c. λ l. beside _ c.with-transfer.ensures ∙ heard_as c.before.before.before _ c.before.enum-told4.given.1 l)
-    (λ c. λ l. beside _ c.with-transfer2.ensures ∙ heard_as c.before.before.before.before _ c.before.before.order.given.1 l)
-    (λ c. λ l. beside _ c.read.ensures ∙ heard_as c.before.before.before.before _ c.before.before.order2.given.1 l))
+    let p = c.before in
+    let m = p.before in
+    ap₂ (λ (w : Words) (s : Three). tabled w (desk s l)) c.restarted.ensures p.to_starts.ensures
+    ∙ heard_as m.before _ m.in-Restart.is l)
+    (λ c. λ l. beside _ c.with_transfer.ensures ∙ heard_as c.before.before.before _ c.in-Next.is l)
+    (λ c. λ l. beside _ c.with_transfer-in-Writing.ensures ∙ heard_as c.before.before.before.before _ c.in-Writing.is l)
+    (λ c. λ l. beside _ c.read.ensures ∙ heard_as c.before.before.before.before _ c.in-Reading.is l))

@@ -12,17 +12,28 @@ pub data_in_spec : {M : Type 1} → statement M
 unfolding word_taken
 data_in_spec =
     tie.close
-    (tie.spec (λ c. search rules) (λ c κs. search rules) (λ c. search rules) (λ c κs. search rules) (λ c κs. search rules) (λ c. search rules)
+    (tie.spec
+    (λ c. search rules)
+    (λ c κs. search rules)
+    (λ c. search rules)
+    (λ c κs. search rules)
+    (λ c κs. search rules)
+    (λ c. search rules)
     (λ c κs.
-    let t = c.before.before.before.before.before in
-    let s = t.before.before.before.before.before in
-    let inside = load_in_lem _ _ (sym (ap sound_transfer t.transfer.given.1) ∙ sound_transfer_lem s.args.w s.requires.3) in
-    (s.requires.0, s.requires.1, s.requires.2, inside.allowed.most, inside.along)) (λ c. search rules) (λ c κs. search rules)
-    (λ c. beside _ c.wrong-way.ensures ∙ sym (taken_by _ _ _ c.before.enum_told.given.1))
+    let t = c.before in
+    let s = t.before in
+    let inside = load_in_lem _ _ (sym (ap sound_transfer t.in-Load.is) ∙ sound_transfer_lem s.args.w s.requires.3) in
+    (s.requires.0, s.requires.1, s.requires.2, inside.allowed.most, inside.along))
+    (λ c. search rules)
+    (λ c κs. search rules)
+    (λ c. beside _ c.wrong_way.ensures ∙ sym (taken_by _ _ _ c.in-Idle.is))
     (λ c.
-    beside _ (c.with-given.ensures ∙ ap (with_given _) c.before.with-transfer.ensures)
-    ∙ sym (taken_by _ _ _ c.before.before.enum-told2.given.1)) (λ c. search rules) (λ c. search rules) (λ c. search rules)
+    beside _ (c.with_given.ensures ∙ ap (with_given _) c.with_transfer.ensures)
+    ∙ sym (taken_by _ _ _ c.in-Address.is))
+    (λ c. search rules)
+    (λ c. search rules)
+    (λ c. search rules)
     (λ c.
-    let p = c.before.before.before.before.before.before in
-    p.load_word.ensures ∙ sym (taken_by _ _ _ p.before.before.before.before.before.before.transfer.given.1))
-    (λ c. beside _ c.wrong-way2.ensures ∙ sym (taken_by _ _ _ c.before.enum-told3.given.1)))
+    let p = c.before in
+    p.load_word.ensures ∙ sym (taken_by _ _ _ p.in-Load.is))
+    (λ c. beside _ c.wrong_way-in-Read.ensures ∙ sym (taken_by _ _ _ c.in-Read.is)))

@@ -8,5 +8,7 @@ pub status_spec : {M : Type 1} → statement M
 unfolding status_of
 status_spec =
     tie.close
-    (tie.spec (λ c κs. search rules) (λ c. simp (c.before.with-error.ensures, c.if1.true))
-    (λ c. simp (c.before.with-error.ensures, c.if1.false)))
+    (tie.spec
+    (λ c κs. search rules)
+    (λ c. simp (c.with_error-words.ensures, c.if-w.true))
+    (λ c. simp (c.with_error-words.ensures, c.if-w.false)))

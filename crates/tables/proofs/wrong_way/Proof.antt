@@ -9,4 +9,7 @@ pub wrong_way_spec : {M : Type 1} → statement M
 unfolding wrong_way
 wrong_way_spec =
     tie.close
-    (tie.spec (λ c κs. search rules) (λ c κs. search rules) (λ c. c.with-error.ensures ∙ ap erred c.before.with-transfer.ensures))
+    (tie.spec
+    (λ c κs. search rules)
+    (λ c κs. search rules)
+    (λ c. c.with_error.ensures ∙ ap erred c.with_transfer.ensures))

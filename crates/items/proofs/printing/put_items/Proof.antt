@@ -13,24 +13,24 @@ use Rattle.items.proofs.Spelled.{spell_on, spell_end}
 use Rattle.items.proofs.printing.put_items.Statement.{statement}
 use Rattle.items.proofs.printing.put_items.Tie as tie
 
-abbrev invariant-loop : tie.invariant-loop
+abbrev invariant-loop : tie.invariant-loop-i
 invariant-loop out₀ at bytes to₀ i₀ out to i =
     (i ≤ length bytes) × (to ≡ at + 3 * i) × (length out ≡ length out₀) × (sets out to (spell (drop i bytes)) ≡ sets out₀ at (spell bytes))
 
-abbrev decreases-loop : tie.decreases-loop
+abbrev decreases-loop : tie.decreases-loop-i
 decreases-loop out₀ at bytes to₀ i₀ out to i = length bytes - i
 
-loop-again : tie.Need-loop-preserved invariant-loop decreases-loop
+loop-again : tie.Need-loop-i-preserved invariant-loop decreases-loop
 loop-again c =
-    let l = c.before.before.before.before.before.before.before.before.loop in
-    let a = c.before.before.before.before.before.before.before.before.before.before.before.args in
+    let l = c.loop-i in
+    let a = c.args in
     let bs = a.bytes.now in
     let b = get_or bs l.i 0 in
     let rest = spell (drop (l.i + 1) bs) in
-    let e = c.before.before.append.ensures in
-    let out = c.before.before.append.new.0 in
+    let e = c.append-to.ensures in
+    let out = c.append-to.new.out in
     let item : List ℕ = 32 ∷ byte_digits b in
-    let stored = e.1 ∙ ap (λ (d : List ℕ). sets l.out l.to (32 ∷ get_or d 0 0 ∷ get_or d 1 0 ∷ [])) c.before.before.before.before.before.byte.ensures in (
+    let stored = e.1 ∙ ap (λ (d : List ℕ). sets l.out l.to (32 ∷ get_or d 0 0 ∷ get_or d 1 0 ∷ [])) c.byte-digits.ensures in (
       omega arith,
       omega (arith, e.0),
       ap length stored ∙ length-sets l.out l.to item ∙ l.invariant.2,
@@ -43,8 +43,8 @@ loop-again c =
 
 returns : tie.Need-returns invariant-loop decreases-loop
 returns c =
-    let l = c.before.loop in
-    let a = c.before.before.before.before.args in
+    let l = c.loop-i in
+    let a = c.args in
     let bs = a.bytes.now in (
       omega arith,
       ap (sets l.out l.to) (sym (spell_end bs l.i (omega arith))) ∙ l.invariant.3,
@@ -52,5 +52,18 @@ returns c =
 
 pub put_items_spec : {M : Type 1} → statement M
 put_items_spec =
-    tie.close (tie.spec invariant-loop decreases-loop (λ c. (omega arith, omega arith, refl, refl)) (λ c. omega arith) (λ c κs. search rules) (λ c. search rules)
-    (λ c. search rules) (λ c. refl) (λ c κs. omega arith) (λ c. omega arith) (λ c. omega arith) loop-again (λ c. c.before.loop.invariant.2) returns)
+    tie.close (tie.spec
+    invariant-loop
+    decreases-loop
+    (λ c. (omega arith, omega arith, refl, refl))
+    (λ c. omega arith)
+    (λ c κs. search rules)
+    (λ c. search rules)
+    (λ c. search rules)
+    (λ c. refl)
+    (λ c κs. omega arith)
+    (λ c. omega arith)
+    (λ c. omega arith)
+    loop-again
+    (λ c. c.loop-i.invariant.2)
+    returns)

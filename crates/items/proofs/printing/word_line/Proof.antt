@@ -12,15 +12,23 @@ use Rattle.items.proofs.printing.word_line.Tie as tie
 returns : tie.Need-returns
 unfolding word_line
 returns c =
-    let a = c.before.before.before.before.before.before.before.args in
-    let e = c.before.before.append.ensures in (
+    let a = c.args in
+    let e = c.append.ensures in (
       e.0,
       e.1
           ∙ ap (λ (d : List ℕ). sets a.out.now a.at (a.letter ∷ 32 ∷ get_or d 0 0 ∷ get_or d 1 0 ∷ get_or d 2 0 ∷ get_or d 3 0 ∷ 10 ∷ []))
-          c.before.before.before.before.before.word.ensures,
+          c.word-digits.ensures,
     )
 
 pub word_line_spec : {M : Type 1} → statement M
 word_line_spec =
-    tie.close (tie.spec (λ c κs. search rules) (λ c. search rules) (λ c. search rules) (λ c. search rules) (λ c. search rules) (λ c. search rules)
-    (λ c κs. search rules) (λ c. search rules) returns)
+    tie.close (tie.spec
+    (λ c κs. search rules)
+    (λ c. search rules)
+    (λ c. search rules)
+    (λ c. search rules)
+    (λ c. search rules)
+    (λ c. search rules)
+    (λ c κs. search rules)
+    (λ c. search rules)
+    returns)

@@ -8,5 +8,7 @@ use Rattle.items.proofs.reading.byte_item.Tie as tie
 pub byte_item_spec : {M : Type 1} → statement M
 unfolding byte_item
 byte_item_spec =
-    tie.close (tie.spec (λ c κs. search rules) (λ c. rw c.before.if1.true c.pair.ensures)
-    (λ c. simp (ne_eqb c.before.args.space 32 c.if1.false)))
+    tie.close (tie.spec
+    (λ c κs. search rules)
+    (λ c. rw c.if-space-eq32.true c.pair.ensures)
+    (λ c. simp (ne_eqb c.args.space 32 c.if-space-eq32.false)))

@@ -9,57 +9,80 @@ use Rattle.items.proofs.Run.{ended, one_more, good_end, bad_end, word_on, word_o
 use Rattle.items.proofs.reading.words_in.Statement.{statement}
 use Rattle.items.proofs.reading.words_in.Tie as tie
 
-abbrev invariant-loop : tie.invariant-loop
+abbrev invariant-loop : tie.invariant-loop-i
 invariant-loop text words₀ n₀ i₀ words n i =
     (i ≤ length text) × (5 * n ≡ i) × (length words ≡ length words₀) × (ended words n (words_in (drop i text)) ≡ ended words₀ 0 (words_in text))
 
-abbrev decreases-loop : tie.decreases-loop
+abbrev decreases-loop : tie.decreases-loop-i
 decreases-loop text words₀ n₀ i₀ words n i = length text - i
 
-returns : tie.Need-returns invariant-loop decreases-loop
+returns : tie.Need-returns-then-item-gt65535 invariant-loop decreases-loop
 returns c =
-    let l = c.before.before.before.before.before.before.before.before.loop in
-    let a = c.before.before.before.before.before.before.before.before.before.before.before.args in
+    let l = c.loop-i in
+    let a = c.args in
     let h : l.i + 5 ≤ length a.text.now = omega arith in
-    let over : 65535 < c.before.word-item.result = c.if1.true in
-    let off : 65535 < word_item (get_or a.text.now l.i 0) (get_or a.text.now (l.i + 1) 0) (get_or a.text.now (l.i + 2) 0) (get_or a.text.now (l.i + 3) 0) (get_or a.text.now (l.i + 4) 0) = omega (arith, c.before.word-item.ensures) in
+    let over : 65535 < c.word_item-item.result = c.if-item-gt65535.true in
+    let off : 65535 < word_item (get_or a.text.now l.i 0) (get_or a.text.now (l.i + 1) 0) (get_or a.text.now (l.i + 2) 0) (get_or a.text.now (l.i + 3) 0) (get_or a.text.now (l.i + 4) 0) = omega (arith, c.word_item-item.ensures) in
     bad_end a.words.now l.words l.n (words_in (drop l.i a.text.now)) (words_in a.text.now) l.invariant.3
     (word_off a.text.now l.i h off)
 
-loop-again : tie.Need-loop-preserved invariant-loop decreases-loop
+loop-again : tie.Need-loop-i-preserved invariant-loop decreases-loop
 loop-again c =
-    let l = c.before.before.before.before.before.before.before.before.loop in
-    let a = c.before.before.before.before.before.before.before.before.before.before.before.args in
+    let l = c.loop-i in
+    let a = c.args in
     let t = a.text.now in
     let h : l.i + 5 ≤ length t = omega arith in
-    let on : word_item (get_or t l.i 0) (get_or t (l.i + 1) 0) (get_or t (l.i + 2) 0) (get_or t (l.i + 3) 0) (get_or t (l.i + 4) 0) < 65536 = omega (arith, c.before.word-item.ensures, c.if1.false) in (
+    let on : word_item (get_or t l.i 0) (get_or t (l.i + 1) 0) (get_or t (l.i + 2) 0) (get_or t (l.i + 3) 0) (get_or t (l.i + 4) 0) < 65536 = omega (arith, c.word_item-item.ensures, c.if-item-gt65535.false) in (
       h,
       omega arith,
       simp length-set l.invariant.2,
-      ap (λ (x : ℕ). ended (set l.words l.n x) (l.n + 1) (words_in (drop (l.i + 5) t))) c.before.word-item.ensures
+      ap (λ (x : ℕ). ended (set l.words l.n x) (l.n + 1) (words_in (drop (l.i + 5) t))) c.word_item-item.ensures
           ∙ one_more l.words l.n (word_item (get_or t l.i 0) (get_or t (l.i + 1) 0) (get_or t (l.i + 2) 0) (get_or t (l.i + 3) 0) (get_or t (l.i + 4) 0)) (words_in (drop (l.i + 5) t))
           ∙ ap (ended l.words l.n) (sym (word_on t l.i h on))
           ∙ l.invariant.3,
     )
 
-returns-2 : tie.Need-returns-2 invariant-loop decreases-loop
+returns-2 : tie.Need-returns-then-i-text invariant-loop decreases-loop
 returns-2 c =
-    let l = c.before.before.loop in
-    let a = c.before.before.before.before.before.args in
+    let l = c.loop-i in
+    let a = c.args in
     let t = a.text.now in
     good_end a.words.now l.words l.n (words_in (drop l.i t)) (words_in t) l.invariant.3 (words_end t l.i (omega arith))
 
-returns-3 : tie.Need-returns-3 invariant-loop decreases-loop
+returns-3 : tie.Need-returns-else-i-text invariant-loop decreases-loop
 returns-3 c =
-    let l = c.before.before.loop in
-    let a = c.before.before.before.before.before.args in
+    let l = c.loop-i in
+    let a = c.args in
     let t = a.text.now in
     bad_end a.words.now l.words l.n (words_in (drop l.i t)) (words_in t) l.invariant.3 (words_cut t l.i (omega arith) (omega arith))
 
 pub words_in_spec : {M : Type 1} → statement M
 words_in_spec =
-    tie.close (tie.spec invariant-loop decreases-loop (λ c. (search rules, search rules, refl, refl)) (λ c. search rules) (λ c. search rules) (λ c. search rules)
-    (λ c. search rules) (λ c. search rules) (λ c. search rules) (λ c. search rules) (λ c. search rules) (λ c. search rules) (λ c. search rules)
-    (λ c κs. search rules) (λ c. c.before.before.before.before.before.before.before.before.loop.invariant.2) returns (λ c. search rules)
-    (λ c. search rules) (λ c. omega arith) (λ c. search rules) (λ c. search rules) (λ c. search rules) loop-again
-    (λ c. c.before.before.loop.invariant.2) returns-2 (λ c. c.before.before.loop.invariant.2) returns-3)
+    tie.close (tie.spec
+    invariant-loop
+    decreases-loop
+    (λ c. (search rules, search rules, refl, refl))
+    (λ c. search rules)
+    (λ c. search rules)
+    (λ c. search rules)
+    (λ c. search rules)
+    (λ c. search rules)
+    (λ c. search rules)
+    (λ c. search rules)
+    (λ c. search rules)
+    (λ c. search rules)
+    (λ c. search rules)
+    (λ c κs. search rules)
+    (λ c. c.loop-i.invariant.2)
+    returns
+    (λ c. search rules)
+    (λ c. search rules)
+    (λ c. omega arith)
+    (λ c. search rules)
+    (λ c. search rules)
+    (λ c. search rules)
+    loop-again
+    (λ c. c.loop-i.invariant.2)
+    returns-2
+    (λ c. c.loop-i.invariant.2)
+    returns-3)

@@ -19,16 +19,23 @@ pub command_in_spec : {M : Type 1} → statement M
 unfolding code_row find_in
 command_in_spec =
     tie.close
-    (tie.spec (λ c κs. omega (arith, held c.before.before 0x90 c.match.keys1))
-    (λ c κs. omega (arith, held c.before.before 0x92 c.match.keys3))
-    (λ c. omega (arith, held c.before.before.before 0x93 c.before.match.keys4))
-    (λ c κs. omega (arith, held c.before.before.before 0x93 c.before.match.keys4)) (λ c κs. search rules)
-    (λ c. omega (arith, held c.before.before.before 0x94 c.before.match.keys5)) (λ c. rw c.before.match.keys1 (cc))
-    (λ c. rw c.match.keys2) (λ c. rw c.before.match.keys3 (cc))
+    (tie.spec
+    (λ c κs. omega (arith, held c.before.before 0x90 c.in-144.is))
+    (λ c κs. omega (arith, held c.before.before 0x92 c.in-146.is))
+    (λ c. omega (arith, held c.before.before.before 0x93 c.in-147.is))
+    (λ c κs. omega (arith, held c.before.before.before 0x93 c.in-147.is))
+    (λ c κs. search rules)
+    (λ c. omega (arith, held c.before.before.before 0x94 c.in-148.is))
+    (λ c. rw c.in-144.is (cc))
+    (λ c. rw c.in-145.is)
+    (λ c. rw c.in-146.is (cc))
     (λ c.
     let back : to_z w32 (of_z w32 c.signed.result) ≡ c.signed.result = search rules in
-    rw c.before.before.before.match.keys4 (cc)) (λ c. rw c.before.match.keys5) (λ c. rw c.match.keys6) (λ c. rw c.match.keys7)
+    rw c.in-147.is (cc))
+    (λ c. rw c.in-148.is)
+    (λ c. rw c.in-149.is)
+    (λ c. rw c.in-150.is)
     (λ c.
-    let rest = c.match.rest in
-    let a = c.before.before in
+    let rest = c.in_default.rest in
+    let a = c.before in
     rw (last_code a.args.code a.requires.0 rest.0.0.0.0.0.0.1 rest.0.0.0.0.0.1 rest.0.0.0.0.1 rest.0.0.0.1 rest.0.0.1 rest.0.1 rest.1)))

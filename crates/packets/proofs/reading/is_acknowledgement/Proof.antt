@@ -9,5 +9,9 @@ pub is_acknowledgement_spec : {M : Type 1} → statement M
 unfolding acknowledges
 is_acknowledgement_spec =
     tie.close (tie.spec
-    (λ c. simp (ne_eqb _ _ c.if1.true)) (λ c. search rules) (λ c. search rules) (λ c. search rules)
-    (λ c κs. search rules) (λ c. simp (eq-eqb _ _ c.before.before.before.before.if1.false) (cc)))
+    (λ c. simp (ne_eqb _ _ c.if-packet-ne5.true))
+    (λ c. search rules)
+    (λ c. search rules)
+    (λ c. search rules)
+    (λ c κs. search rules)
+    (λ c. simp (eq-eqb _ _ c.if-packet-ne5.false) (cc)))

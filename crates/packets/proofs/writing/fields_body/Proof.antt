@@ -44,21 +44,31 @@ small c = omega arith
 
 returns : tie.Need-returns
 returns c =
-    let eighth = c.before.before in
-    let seventh = eighth.before.before.before.before in
-    let sixth = seventh.before.before.before.before in
-    let fifth = sixth.before.before.before.before in
-    let fourth = fifth.before.before.before.before in
-    let third = fourth.before.before.before.before in
-    let second = third.before.before.before.before.before in
-    let first = second.before.before.before.before in
-    let start = first.before.before.before in
-    stored start.args.body.now start.args.f third.before.time.result (small start) third.before.time.ensures
-    first.put_one.ensures second.put_two.ensures third.put_four.ensures fourth.put-two2.ensures fifth.put-two3.ensures
-    sixth.put-four2.ensures seventh.put-four3.ensures eighth.put-two4.ensures
+    let eighth = c.before in
+    let seventh = eighth.before in
+    let sixth = seventh.before in
+    let fifth = sixth.before in
+    let fourth = fifth.before in
+    let third = fourth.before in
+    let second = third.before in
+    let first = second.before in
+    let start = first.before in
+    stored start.args.body.now start.args.f third.time.result (small start) third.time.ensures
+    first.put_one.ensures second.put_two.ensures third.put_four.ensures fourth.put-two2.ensures fifth.put_two-3.ensures
+    sixth.put_four-2.ensures seventh.put_four-3.ensures eighth.put_two-4.ensures
 
 pub fields_body_spec : {M : Type 1} → statement M
 fields_body_spec =
     tie.close
-    (tie.spec (λ c κs. search rules) (λ c κs. search rules) (λ c κs. search rules) (λ c κs. search rules) (λ c κs. search rules)
-    (λ c κs. search rules) (λ c κs. search rules) (λ c κs. search rules) (λ c κs. search rules) (λ c. search rules) returns)
+    (tie.spec
+    (λ c κs. search rules)
+    (λ c κs. search rules)
+    (λ c κs. search rules)
+    (λ c κs. search rules)
+    (λ c κs. search rules)
+    (λ c κs. search rules)
+    (λ c κs. search rules)
+    (λ c κs. search rules)
+    (λ c κs. search rules)
+    (λ c. search rules)
+    returns)

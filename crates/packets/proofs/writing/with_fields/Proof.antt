@@ -11,12 +11,18 @@ use Rattle.packets.proofs.writing.with_fields.Tie as tie
 pub with_fields_spec : {M : Type 1} → statement M
 with_fields_spec =
     tie.close
-    (tie.spec (λ c κs. search rules) (λ c. search rules) (λ c. search rules) (λ c. search rules) (λ c κs. search rules) (λ c κs. search rules)
+    (tie.spec
+    (λ c κs. search rules)
+    (λ c. search rules)
+    (λ c. search rules)
+    (λ c. search rules)
+    (λ c κs. search rules)
+    (λ c κs. search rules)
     (λ c. search rules)
     (λ c.
-    let closing = c.before.before in
-    let body = closing.before.before.before.before in
-    let heading = body.before.before.before.before in
-    let a = heading.before.before.before.args in
+    let closing = c.before in
+    let body = closing.before in
+    let heading = body.before in
+    let a = heading.args in
     answered a.room.now a.code 0x01 (field_bytes a.f) _ _ _ _ 23 _
-    heading.head.ensures refl body.fields-body.ensures closing.close.ensures (omega (arith, field_bytes-length a.f)) (omega arith)))
+    heading.head.ensures refl body.fields_body.ensures closing.close.ensures (omega (arith, field_bytes-length a.f)) (omega arith)))

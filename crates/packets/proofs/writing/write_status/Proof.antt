@@ -17,12 +17,18 @@ pub write_status_spec : {M : Type 1} → statement M
 unfolding status_answer
 write_status_spec =
     tie.close
-    (tie.spec (λ c κs. search rules) (λ c. search rules) (λ c. search rules) (λ c. search rules) (λ c κs. search rules) (λ c κs. search rules)
+    (tie.spec
+    (λ c κs. search rules)
+    (λ c. search rules)
+    (λ c. search rules)
+    (λ c. search rules)
+    (λ c κs. search rules)
+    (λ c κs. search rules)
     (λ c. search rules)
     (λ c.
-    let closing = c.before.before in
-    let body = closing.before.before.before.before in
-    let heading = body.before.before.before.before in
-    let a = heading.before.before.before.args in
+    let closing = c.before in
+    let body = closing.before in
+    let heading = body.before in
+    let a = heading.args in
     answered a.room.now a.first 0x01 (status_body a.report) _ _ _ _ 20 _
-    heading.head.ensures refl body.status-body.ensures closing.close.ensures (omega (arith, status_body-length a.report (eight heading.before.before.before))) (omega arith)))
+    heading.head.ensures refl body.status_body.ensures closing.close.ensures (omega (arith, status_body-length a.report (eight heading.before))) (omega arith)))

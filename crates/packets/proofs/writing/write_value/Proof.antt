@@ -14,13 +14,19 @@ pub write_value_spec : {M : Type 1} → statement M
 unfolding value_answer
 write_value_spec =
     tie.close
-    (tie.spec (λ c κs. search rules) (λ c. search rules) (λ c. search rules) (λ c. search rules) (λ c κs. search rules) (λ c κs. search rules)
+    (tie.spec
+    (λ c κs. search rules)
+    (λ c. search rules)
+    (λ c. search rules)
+    (λ c. search rules)
+    (λ c κs. search rules)
+    (λ c κs. search rules)
     (λ c. search rules)
     (λ c.
-    let closing = c.before.before in
-    let body = closing.before.before.before.before in
-    let heading = body.before.before.before.before in
-    let a = heading.before.before.before.args in
+    let closing = c.before in
+    let body = closing.before in
+    let heading = body.before in
+    let a = heading.args in
     let back : to_z w32 (of_z w32 a.value) ≡ a.value = search rules in
     answered a.room.now a.first 0x01 (value_body a.id a.value) _ _ _ _ 7 _
-    heading.head.ensures refl (rw back at body.value-body.ensures) closing.close.ensures (omega (arith, value_body-length a.id a.value)) (omega arith)))
+    heading.head.ensures refl (rw back at body.value_body.ensures) closing.close.ensures (omega (arith, value_body-length a.id a.value)) (omega arith)))

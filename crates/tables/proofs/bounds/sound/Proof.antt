@@ -10,11 +10,14 @@ pub sound_spec : {M : Type 1} → statement M
 unfolding sound_words sound_places
 sound_spec =
     tie.close
-    (tie.spec (λ c. rw (lt-leb _ _ c.if1.true)) (λ c. rw (le-leb _ _ c.before.before.if1.false, lt-leb _ _ c.if2.true))
+    (tie.spec
+    (λ c. rw (lt-leb _ _ c.if-places-gt64.true))
+    (λ c. rw (le-leb _ _ c.if-places-gt64.false, lt-leb _ _ c.if-places-gt128.true))
     (λ c.
-    let e2 = c.before.before in
-    rw (le-leb _ _ e2.before.before.if1.false, le-leb _ _ e2.if2.false, lt-leb _ _ c.if3.true)) (λ c κs. search rules)
+    let e2 = c.before in
+    rw (le-leb _ _ e2.if-places-gt64.false, le-leb _ _ e2.if-places-gt128.false, lt-leb _ _ c.if-places-gt64-2.true))
+    (λ c κs. search rules)
     (λ c.
     let e3 = c.before in
-    let e2 = e3.before.before in
-    c.transfer-sound.ensures ∙ rw (le-leb _ _ e2.before.before.if1.false, le-leb _ _ e2.if2.false, le-leb _ _ e3.if3.false)))
+    let e2 = e3.before in
+    c.transfer_sound.ensures ∙ rw (le-leb _ _ e2.if-places-gt64.false, le-leb _ _ e2.if-places-gt128.false, le-leb _ _ e3.if-places-gt64-2.false)))

@@ -23,10 +23,19 @@ pub transfer_sound_spec : {M : Type 1} → statement M
 unfolding sound_transfer
 transfer_sound_spec =
     tie.close
-    (tie.spec (λ c. search rules) (λ c. search rules) (λ c. search rules) (λ c κs. search rules) (λ c. search rules) (λ c κs. search rules)
-    (λ c. rw (c.before.before.before.t2.given.1, by-along _ _ _, sym c.before.along2.ensures ∙ not-true _ c.if1.true))
-    (λ c. search rules) (λ c κs. search rules) (λ c. simp c.enum_told.given.1) (λ c. simp c.enum-told2.given.1)
-    (λ c. c.along.ensures ∙ sym (ap sound_transfer c.before.before.t.given.1))
+    (tie.spec
+    (λ c. search rules)
+    (λ c. search rules)
+    (λ c. search rules)
+    (λ c κs. search rules)
+    (λ c. search rules)
+    (λ c κs. search rules)
+    (λ c. rw (c.in-Read.is, by-along _ _ _, sym c.along-in-Read.ensures ∙ c.if-not-along.true))
+    (λ c. search rules)
+    (λ c κs. search rules)
+    (λ c. simp c.in-Idle.is)
+    (λ c. simp c.in-Address.is)
+    (λ c. c.along.ensures ∙ sym (ap sound_transfer c.in-Load.is))
     (λ c.
-    let a = c.before.before in
-    rw (a.before.before.t2.given.1, by-along _ _ _, sym a.along2.ensures ∙ not-false _ c.before.if1.false) c.within.ensures))
+    let a = c.before in
+    rw (a.in-Read.is, by-along _ _ _, sym a.along-in-Read.ensures ∙ c.if-not-along.false) c.within.ensures))

@@ -12,16 +12,20 @@ use Rattle.tables.proofs.loads.last_word.Tie as tie
 pub last_word_spec : {M : Type 1} → statement M
 last_word_spec =
     tie.close
-    (tie.spec (λ c κs. search rules) (λ c κs. search rules)
-    (λ c. beside _ c.with-error.ensures ∙ sym (judged_wrong _ _ _ _ (sym c.before.before.right.ensures ∙ not-true _ c.before.if1.true)))
+    (tie.spec
+    (λ c κs. search rules)
+    (λ c κs. search rules)
+    (λ c. beside _ c.with_error.ensures ∙ sym (judged_wrong _ _ _ _ (sym c.right.ensures ∙ c.if-not-right.true)))
     (λ c κs.
-    let e = c.before.before.before in
-    let s = e.before.before.before.before.before in
-    (s.requires.0, s.requires.1, s.requires.2, s.requires.3, sym e.before.right.ensures ∙ not-false _ e.if1.false)) (λ c. search rules)
-    (λ c. search rules) (λ c. search rules)
+    let e = c.before in
+    let s = e.before in
+    (s.requires.0, s.requires.1, s.requires.2, s.requires.3, sym e.right.ensures ∙ not-false _ e.if-not-right.false))
+    (λ c. search rules)
+    (λ c. search rules)
+    (λ c. search rules)
     (λ c.
-    let p = c.before.before.before.before.before.before in
-    let e = p.before.before.before.before in
-    let a = e.before.before.before.before.before.args in
+    let p = c.before in
+    let e = p.before in
+    let a = e.args in
     ap (λ (s : Three). tabled a.w (desk s a.words)) p.store.ensures
-    ∙ sym (judged_right _ _ _ _ (sym e.before.right.ensures ∙ not-false _ e.if1.false))))
+    ∙ sym (judged_right _ _ _ _ (sym e.right.ensures ∙ not-false _ e.if-not-right.false))))

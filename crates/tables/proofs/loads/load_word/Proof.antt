@@ -13,14 +13,22 @@ use Rattle.tables.proofs.loads.load_word.Tie as tie
 pub load_word_spec : {M : Type 1} → statement M
 load_word_spec =
     tie.close
-    (tie.spec (λ c. search rules) (λ c. search rules) (λ c. search rules) (λ c κs. search rules)
-    (λ c. beside _ c.with-transfer.ensures ∙ sym (load_more _ _ _ _ c.before.if1.true)) (λ c κs. search rules) (λ c κs. search rules)
-    (λ c. search rules) (λ c. search rules) (λ c. search rules)
+    (tie.spec
+    (λ c. search rules)
+    (λ c. search rules)
+    (λ c. search rules)
+    (λ c κs. search rules)
+    (λ c. beside _ c.with_transfer.ensures ∙ sym (load_more _ _ _ _ c.if-next-h.true))
+    (λ c κs. search rules)
+    (λ c κs. search rules)
+    (λ c. search rules)
+    (λ c. search rules)
+    (λ c. search rules)
     (λ c.
-    let j = c.before.before.before.before.before.before in
-    let t = j.before.before.before.before in
-    let e = t.before.before in
-    let a = e.before.before.before.before.before.args in
+    let j = c.before in
+    let t = j.before in
+    let e = t.before in
+    let a = e.args in
     j.last_word.ensures
-    ∙ ap (λ (w : Words). load_judged a.h (set a.load.now a.k a.x) w (three a.five.now a.six.now a.seven.now)) t.with-transfer2.ensures
-    ∙ sym (load_last _ _ _ _ e.if1.false)))
+    ∙ ap (λ (w : Words). load_judged a.h (set a.load.now a.k a.x) w (three a.five.now a.six.now a.seven.now)) t.with_transfer-2.ensures
+    ∙ sym (load_last _ _ _ _ e.if-next-h.false)))

@@ -8,5 +8,12 @@ pub right_spec : {M : Type 1} → statement M
 unfolding load_right
 right_spec =
     tie.close
-    (tie.spec (λ c. search rules) (λ c κs. search rules) (λ c. search rules) (λ c κs. search rules) (λ c. search rules) (λ c. search rules)
-    (λ c κs. search rules) (λ c. simp (c.within.ensures, c.before.data-count.ensures, c.before.before.number.ensures)))
+    (tie.spec
+    (λ c. search rules)
+    (λ c κs. search rules)
+    (λ c. search rules)
+    (λ c κs. search rules)
+    (λ c. search rules)
+    (λ c. search rules)
+    (λ c κs. search rules)
+    (λ c. simp (c.within.ensures, c.data_count.ensures, c.number.ensures)))

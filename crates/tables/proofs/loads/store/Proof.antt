@@ -9,24 +9,29 @@ pub store_spec : {M : Type 1} → statement M
 unfolding stored_in
 store_spec =
     tie.close
-    (tie.spec (λ c. search rules) (λ c. search rules) (λ c κs. search rules) (λ c. search rules) (λ c. search rules)
+    (tie.spec
+    (λ c. search rules)
+    (λ c. search rules)
+    (λ c κs. search rules)
+    (λ c. search rules)
+    (λ c. search rules)
     (λ c κs.
-    let s = c.before.before.before.before.before.before.before in
-    let end = rw c.before.enum_told.given.1 at (right_within s.args.h s.args.t2 s.requires.4) in
+    let s = c.before in
+    let end = rw c.in-Five.is at (right_within s.args.h s.args.words s.requires.4) in
     search rules)
     (λ c. search rules)
     (λ c κs.
-    let s = c.before.before.before.before.before.before.before in
-    let end = rw c.before.enum-told2.given.1 at (right_within s.args.h s.args.t2 s.requires.4) in
+    let s = c.before in
+    let end = rw c.in-Six.is at (right_within s.args.h s.args.words s.requires.4) in
     search rules)
     (λ c. search rules)
     (λ c κs.
-    let s = c.before.before.before.before.before.before.before in
-    let end = rw c.before.enum-told3.given.1 at (right_within s.args.h s.args.t2 s.requires.4) in
+    let s = c.before in
+    let end = rw c.in-Seven.is at (right_within s.args.h s.args.words s.requires.4) in
     search rules)
     (λ c. search rules)
-    (λ c. rw c.before.before.before.before.enum_told.given.1 (cc))
+    (λ c. rw c.in-Five.is (cc))
     (λ c. search rules)
-    (λ c. rw c.before.before.before.before.enum-told2.given.1 (cc))
+    (λ c. rw c.in-Six.is (cc))
     (λ c. search rules)
-    (λ c. rw c.before.before.before.before.enum-told3.given.1 (cc)))
+    (λ c. rw c.in-Seven.is (cc)))

@@ -10,8 +10,11 @@ pub read_spec : {M : Type 1} → statement M
 unfolding read_opened
 read_spec =
     tie.close
-    (tie.spec (λ c κs. search rules) (λ c κs. search rules) (λ c κs. search rules)
+    (tie.spec
+    (λ c κs. search rules)
+    (λ c κs. search rules)
+    (λ c κs. search rules)
     (λ c.
-    let a = c.before.before.before.before.args in
+    let a = c.args in
     c.read_at.ensures
-    ∙ ap (λ (i : ℕ). read_opened_at a.h i a.w) (c.before.begins-at.ensures ∙ ap (begins_at a.w.given) c.before.before.place.ensures)))
+    ∙ ap (λ (i : ℕ). read_opened_at a.h i a.w) (c.begins_at.ensures ∙ ap (begins_at a.w.given) c.place.ensures)))

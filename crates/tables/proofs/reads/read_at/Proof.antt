@@ -15,23 +15,26 @@ use Rattle.tables.proofs.reads.read_at.Statement.{statement}
 use Rattle.tables.proofs.reads.read_at.Tie as tie
 
 -- the read ends within its table
-within_end : (c : tie.Else1) → fits c.before.before.args.h.table c.before.before.args.at (data_count c.before.before.args.h) ≡ true
-within_end c = sym c.before.within.ensures ∙ not-false _ c.if1.false
+within_end : (c : tie.Else-not-within) → fits c.args.h.table c.args.at (data_count c.args.h) ≡ true
+within_end c = sym c.within.ensures ∙ c.if-not-within.false
 
-ends : (c : tie.Else1) → c.before.before.args.at + data_count c.before.before.args.h ≤ table_size c.before.before.args.h.table
+ends : (c : tie.Else-not-within) → c.args.at + data_count c.args.h ≤ table_size c.args.h.table
 ends c = leb-true _ _ (within_end c)
 
 pub read_at_spec : {M : Type 1} → statement M
 read_at_spec =
     tie.close
-    (tie.spec (λ c κs. search rules) (λ c κs. search rules)
-    (λ c. c.with-error.ensures ∙ sym (read_past _ _ _ (sym c.before.before.within.ensures ∙ not-true _ c.before.if1.true)))
-    (λ c. record { fits = omega (arith, ends c, size_most c.before.before.args.h.table) }) (λ c κs. search rules)
-    (λ c. record { fits = omega (arith, ends c.before, size_most c.before.before.before.args.h.table, c.data-count.ensures) })
+    (tie.spec
+    (λ c κs. search rules)
+    (λ c κs. search rules)
+    (λ c. c.with_error.ensures ∙ sym (read_past _ _ _ (sym c.within.ensures ∙ c.if-not-within.true)))
+    (λ c. record { fits = omega (arith, ends c, size_most c.args.h.table) })
+    (λ c κs. search rules)
+    (λ c. record { fits = omega (arith, ends c.before.before, size_most c.args.h.table, c.data_count.ensures) })
     (λ c κs. search rules)
     (λ c.
-    let e = c.before.before in
-    let a = e.before.before.args in
+    let e = c.before in
+    let a = e.args in
     ap (λ (q : Places). with_given Nowhere (with_places q (with_transfer (Read a.h 0 a.at) a.w)))
-    (c.with-place.ensures ∙ ap (λ (k : ℕ). with_read_place a.h.table (a.at + k) a.w.places) c.before.data-count.ensures)
+    (c.with_place-places.ensures ∙ ap (λ (k : ℕ). with_read_place a.h.table (a.at + k) a.w.places) c.data_count.ensures)
     ∙ sym (read_taken _ _ _ (within_end e))))

@@ -15,8 +15,16 @@ pub read_word_spec : {M : Type 1} → statement M
 unfolding word_at
 read_word_spec =
     tie.close
-    (tie.spec (λ c κs. search rules)
-    (λ c. c.number.ensures ∙ sym (read_first _ _ _) ∙ ap (word_at c.before.before.before) (sym c.before.if1.true))
-    (λ c. sym (read-second _ _ _) ∙ ap (word_at c.before.before.before) (sym c.if2.true)) (λ c κs. search rules) (λ c. search rules)
-    (λ c. c.data-count.ensures ∙ sym (read-third _ _ _) ∙ ap (word_at c.before.before.before.before.before) (sym c.before.if3.true))
-    (λ c. search rules) (λ c. search rules) (λ c. search rules) (λ c. search rules) (λ c. search rules) (λ c. sym (read_data _ _ _ _ (search rules))))
+    (tie.spec
+    (λ c κs. search rules)
+    (λ c. c.number.ensures ∙ sym (read_first _ _ _) ∙ ap (word_at c.before.before.before) (sym c.if-k-eq0.true))
+    (λ c. sym (read-second _ _ _) ∙ ap (word_at c.before.before.before) (sym c.if-k-eq1.true))
+    (λ c κs. search rules)
+    (λ c. search rules)
+    (λ c. c.data_count.ensures ∙ sym (read-third _ _ _) ∙ ap (word_at c.before.before.before.before.before) (sym c.if-k-eq2.true))
+    (λ c. search rules)
+    (λ c. search rules)
+    (λ c. search rules)
+    (λ c. search rules)
+    (λ c. search rules)
+    (λ c. sym (read_data _ _ _ _ (search rules))))

@@ -18,12 +18,13 @@ pub word_of_spec : {M : Type 1} → statement M
 unfolding word_in
 word_of_spec =
     tie.close
-    (tie.spec (λ c. search rules)
-    (λ c κs. let end = rw c.enum_told.given.1 at c.before.before.before.before.before.requires.1.1 in search rules)
+    (tie.spec
     (λ c. search rules)
-    (λ c κs. let end = rw c.enum-told2.given.1 at c.before.before.before.before.before.requires.1.1 in search rules)
+    (λ c κs. let end = rw c.in-Five.is at c.requires.1.1 in search rules)
     (λ c. search rules)
-    (λ c κs. let end = rw c.enum-told3.given.1 at c.before.before.before.before.before.requires.1.1 in search rules)
-    (λ c. c.read_word.ensures ∙ sym (ap (word_in c.before.before.before.before.before.before) c.before.enum_told.given.1))
-    (λ c. c.read-word2.ensures ∙ sym (ap (word_in c.before.before.before.before.before.before) c.before.enum-told2.given.1))
-    (λ c. c.read-word3.ensures ∙ sym (ap (word_in c.before.before.before.before.before.before) c.before.enum-told3.given.1)))
+    (λ c κs. let end = rw c.in-Six.is at c.requires.1.1 in search rules)
+    (λ c. search rules)
+    (λ c κs. let end = rw c.in-Seven.is at c.requires.1.1 in search rules)
+    (λ c. c.read_word.ensures ∙ sym (ap (word_in c.before.before.before.before.before.before) c.in-Five.is))
+    (λ c. c.read_word-in-Six.ensures ∙ sym (ap (word_in c.before.before.before.before.before.before) c.in-Six.is))
+    (λ c. c.read_word-in-Seven.ensures ∙ sym (ap (word_in c.before.before.before.before.before.before) c.in-Seven.is)))

@@ -17,13 +17,19 @@ all_three a b d a' b' d' p q r = λ i. three (p i) (q i) (r i)
 pub to_starts_spec : {M : Type 1} → statement M
 to_starts_spec =
     tie.close
-    (tie.spec (λ c κs. search rules) (λ c κs. search rules) (λ c κs. search rules) (λ c. search rules) (λ c. search rules) (λ c. search rules)
+    (tie.spec
+    (λ c κs. search rules)
+    (λ c κs. search rules)
+    (λ c κs. search rules)
+    (λ c. search rules)
+    (λ c. search rules)
+    (λ c. search rules)
     (λ c.
-    let f3 = c.before.before in
-    let f2 = f3.before.before.before.before in
-    let f1 = f2.before.before.before.before in
-    let s = f1.before.before.before.before.before in
+    let f3 = c.before in
+    let f2 = f3.before in
+    let f1 = f2.before in
+    let s = f1.before in
     all_three _ _ _ _ _ _
     (f1.fill.ensures ∙ filled Five 0 _ zero-mul s.requires.0)
-    (f2.fill2.ensures ∙ filled Six 0 _ zero-mul s.requires.1)
-    (f3.fill3.ensures ∙ filled Seven 256 _ (λ i. refl) s.requires.2)))
+    (f2.fill-2.ensures ∙ filled Six 0 _ zero-mul s.requires.1)
+    (f3.fill-3.ensures ∙ filled Seven 256 _ (λ i. refl) s.requires.2)))
