@@ -16,13 +16,12 @@ use Rattle.decimals.specs.Reading.{pieces, items_in, number_in, numbers_in}
 
 -- up to the first space, and what stands from there on
 pieces_cut : (m : List ℕ) → pieces m ≡ take (index_of 32 m) m ∷ items_in (drop (index_of 32 m) m)
-unfolding pieces items_in index_of index_after
+unfolding pieces items_in index_of
 pieces_cut [] = refl
 pieces_cut (c ∷ cs) = split (eqb c 32) (λ e. rw e) (λ e. rw (e, pieces_cut cs))
 
 -- where the kit's search ends
 pub found_at : (t : List ℕ) (from r : ℕ) → r ≡ from + index_of 32 (slice from (length t) t) → r ≡ from + index_of 32 (drop from t)
-unfolding slice
 found_at t from r e = e ∙ ap (λ (l : List ℕ). from + index_of 32 (drop from l)) (take-length t)
 
 -- the next number

@@ -23,7 +23,7 @@ use Rattle.rules.specs.Calls.{answered, word_call, packet_heard, spoken_bytes, r
 use Rattle.rules.specs.World.{World, Call, power, packet, put, word, lone, samples, Stepped, step, rows_of, next, final}
 use Rattle.rules.specs.History.{Event, words, obeyed_as, event_of}
 use Rattle.rules.specs.Transfers.{Fit, cuts}
-use Rattle.rules.proofs.Happens.{Happens, by_rows, by_power, by_empty, by_damage, by_acknowledgement, by_check, by_command, by_put, by_lone, by_samples, obeying, wording}
+use Rattle.rules.proofs.Happens.{Happens, by_rows, by_power, by_empty, by_damage, by_acknowledgement, by_check, by_command, by_put, by_lone, by_word, by_samples, obeying, wording}
 use Rattle.rules.proofs.WordRows.{rowed}
 use Rattle.rules.proofs.Succeeded.{error_fails, room_at}
 use Rattle.rules.proofs.Eventful.{command_succeeds}
@@ -113,3 +113,4 @@ ported {w} o (by_command b room c k e q) = rw (e, command_succeeds w room (room_
 ported o (by_put s b k) = apart _ _ (λ g. refl) (record { words = refl; desk = refl })
 ported o (by_lone c k) = apart _ _ (λ g. refl) (record { words = refl; desk = refl })
 ported {w} o (by_samples k xs q) = apart _ _ (λ g. refl) (still w)
+ported {w = w} o (by_word c _) = elim o [ ]

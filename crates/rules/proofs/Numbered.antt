@@ -28,12 +28,14 @@ first_in : {n : ℕ} {rs ts : List Row} → Among rs ts → First n rs → First
 first_in (same a) (here h) = here h
 first_in (same a) (after h f) = after h (first_in a f)
 first_in (idle e a) f = after e (first_in a f)
+first_in {n = n} done f = elim f [ ]
 
 first_of : {n : ℕ} {rs ts : List Row} → Among rs ts → First n ts → First n rs
 first_of (same a) (here h) = here h
 first_of (same a) (after h f) = after h (first_of a f)
 first_of (idle e a) (here h) = never h e
 first_of (idle e a) (after h f) = first_of a f
+first_of {n = n} done f = elim f [ ]
 
 -- ---- the table
 

@@ -53,4 +53,4 @@ three_spec =
       c.low-3.ensures,
       c.high-3.ensures,
     )
-    (sym (bytes_03 args.t1 args.pipe args.initialised args.selfcheck))))
+    (sym (bytes_03 args.a args.pipe args.initialised args.selfcheck))))

@@ -23,7 +23,7 @@ heard_as : (c : tie.After-heard-order) (o : Order) → c.heard-order.result ≡ 
     (tabled c.args.w (lent c.before.before.before.before.before l))
 unfolding lent
 heard_as c o e l =
-    let s = c.before in
+    let s = c.before.before.before.before.before in
     beside _ (ap (order_obeyed o) c.close-closed.ensures)
     ∙ sym (obeyed o s.args.on s.args.word (tabled s.args.w (lent s l)) (sym (order_said_one _ _ c.heard-order.ensures) ∙ e))
 
@@ -46,17 +46,17 @@ command_spec =
     (λ c κs. search rules)
     (λ c. search rules)
     (λ c κs. search rules)
-    (λ c. λ l. beside _ c.with_error.ensures ∙ heard_as c.before.before.before _ c.in-Other.is l)
-    (λ c. λ l. heard_as c.before.before _ c.in-Stop.is l)
+    (λ c. λ l. beside _ c.with_error.ensures ∙ heard_as c.before.before _ c.in-Other.is l)
+    (λ c. λ l. heard_as c.before _ c.in-Stop.is l)
     (λ c. search rules)
     (λ c. search rules)
     (λ c. search rules)
     (λ c.
     λ l.
     let p = c.before in
-    let m = p.before in
+    let m = p.before.before.before.before.before.before.before.before.before.before in
     ap₂ (λ (w : Words) (s : Three). tabled w (desk s l)) c.restarted.ensures p.to_starts.ensures
     ∙ heard_as m.before _ m.in-Restart.is l)
-    (λ c. λ l. beside _ c.with_transfer.ensures ∙ heard_as c.before.before.before _ c.in-Next.is l)
-    (λ c. λ l. beside _ c.with_transfer-in-Writing.ensures ∙ heard_as c.before.before.before.before _ c.in-Writing.is l)
-    (λ c. λ l. beside _ c.read.ensures ∙ heard_as c.before.before.before.before _ c.in-Reading.is l))
+    (λ c. λ l. beside _ c.with_transfer.ensures ∙ heard_as c.before.before _ c.in-Next.is l)
+    (λ c. λ l. beside _ c.with_transfer-in-Writing.ensures ∙ heard_as c.before.before _ c.in-Writing.is l)
+    (λ c. λ l. beside _ c.read.ensures ∙ heard_as c.before.before _ c.in-Reading.is l))

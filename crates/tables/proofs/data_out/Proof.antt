@@ -10,7 +10,7 @@ use Rattle.tables.proofs.data_out.Statement.{statement}
 use Rattle.tables.proofs.data_out.Tie as tie
 
 -- the bounds of the open read
-inside : (c : tie.In-Read-2) → ReadIn c.in-Read.header c.in-Read.k c.in-Read.start
+inside : (c : tie.In-Read) → ReadIn c.in-Read.header c.in-Read.k c.in-Read.start
 inside c =
     let s = c.before in
     read_in_lem _ _ _ (sym (ap sound_transfer c.in-Read.is) ∙ sound_transfer_lem s.args.w s.requires.3)
@@ -29,9 +29,9 @@ data_out_spec =
     (λ c. search rules)
     (λ c κs.
     let s = c.before in
-    let b = inside c.before in
+    let b = inside c in
     ((s.requires.0, s.requires.1, s.requires.2), (b.load.along, b.end)))
-    (λ c κs. (inside c.before.before).load.along)
+    (λ c κs. (inside c.before).load.along)
     (λ c κs. search rules)
     (λ c. c.no_word.ensures ∙ sym (given_by _ _ _ c.in-Idle.is))
     (λ c. c.no_word-in-Address.ensures ∙ sym (given_by _ _ _ c.in-Address.is))

@@ -23,24 +23,32 @@ module _ (code : ℕ) (left : Left) (a : List ℕ) (m : Meaning) (e : meaning_sa
   unfolding heard_of unanswered
   ended h = rw (sym e, h)
 
-returns : tie.Need-returns
+returns : tie.Need-returns-then-as_none
 returns c =
-    let tested = c.before.before in
+    let tested = c.before in
     let heard = tested.before in
-    let told = heard.before.before in
-    rw told.self.given.1
-    (c.used.ensures _ ∙ used-up _ _ _ _ heard.read.ensures (sym (tested.as_none.ensures _) ∙ c.before.if1.true))
+    let told = heard.before in
+    rw told.in-Awaiting.is
+    (c.used.ensures _ ∙ used-up _ _ _ _ heard.read-meaning.ensures (sym (tested.as_none.ensures _) ∙ c.if-as_none.true))
 
-returns-3 : tie.Need-returns-3
+returns-3 : tie.Need-returns-else-as_none
 unfolding heard_said
 returns-3 c =
     let tested = c.before in
     let heard = tested.before in
-    let told = heard.before.before in
-    rw told.self.given.1 (ended _ _ _ _ heard.read.ensures (sym (tested.as_none.ensures _) ∙ c.if1.false))
+    let told = heard.before in
+    rw told.in-Awaiting.is (ended _ _ _ _ heard.read-meaning.ensures (sym (tested.as_none.ensures _) ∙ c.if-as_none.false))
 
 pub reply_spec : {M : Type 1} → statement M
 reply_spec =
     tie.close
-    (tie.spec (λ c. search rules) (λ c κs. search rules) (λ c. search rules) (λ c κs. search rules) (λ c κs. search rules) (λ c κs. search rules)
-    returns (λ c. rw c.before.enum_told.given.1 (c.idle.ensures _ _)) returns-3)
+    (tie.spec
+    (λ c. search rules)
+    (λ c κs. search rules)
+    (λ c. search rules)
+    (λ c κs. search rules)
+    (λ c κs. search rules)
+    (λ c κs. search rules)
+    returns
+    (λ c. rw c.in-Over.is (c.idle.ensures _ _))
+    returns-3)

@@ -8,5 +8,10 @@ pub silence_spec : {M : Type 1} → statement M
 unfolding heard_of unanswered
 silence_spec =
     tie.close
-    (tie.spec (λ c. search rules) (λ c κs. search rules) (λ c. search rules) (λ c κs. search rules)
-    (λ c a. rw c.before.enum_told.given.1 (c.idle.ensures a silence)) (λ c a. rw c.before.before.self.given.1 (c.used.ensures a)))
+    (tie.spec
+    (λ c. search rules)
+    (λ c κs. search rules)
+    (λ c. search rules)
+    (λ c κs. search rules)
+    (λ c a. rw c.in-Over.is (c.idle.ensures a silence))
+    (λ c a. rw c.in-Awaiting.is (c.used.ensures a)))

@@ -11,10 +11,13 @@ pub acknowledge_spec : {M : Type 1} → statement M
 unfolding acknowledgement_built built_said refusal_number
 acknowledge_spec =
     tie.close
-    (tie.spec (λ c κs. search rules) (λ c. outside _ _ _ (sym c.before.first-fits.ensures ∙ not-true _ c.if1.true))
-    (λ c. short _ _ _ (sym c.before.before.first-fits.ensures ∙ not-false _ c.before.if1.false) c.if2.true)
-    (λ c κs. search rules) (λ c. search rules)
+    (tie.spec
+    (λ c κs. search rules)
+    (λ c. outside _ _ _ (sym c.first_fits.ensures ∙ c.if-not-first_fits.true))
+    (λ c. short _ _ _ (sym c.first_fits.ensures ∙ c.if-not-first_fits.false) c.if-room-lt-COMMAND.true)
+    (λ c κs. search rules)
+    (λ c. search rules)
     (λ c.
-    let wrote = c.before.before in
-    let roomy = wrote.before.before in
-    laid _ _ _ (sym roomy.before.before.first-fits.ensures ∙ not-false _ roomy.before.if1.false) roomy.if2.false _ _ wrote.write-form.ensures))
+    let wrote = c.before in
+    let roomy = wrote.before in
+    laid _ _ _ (sym roomy.first_fits.ensures ∙ not-false _ roomy.if-not-first_fits.false) roomy.if-room-lt-COMMAND.false _ _ wrote.write_form.ensures))

@@ -11,10 +11,13 @@ pub build_spec : {M : Type 1} → statement M
 unfolding command_built built_said refusal_number
 build_spec =
     tie.close
-    (tie.spec (λ c κs. search rules) (λ c. outside _ _ _ (sym c.before.fits2.ensures ∙ not-true _ c.if1.true))
-    (λ c. short _ _ _ (sym c.before.before.fits2.ensures ∙ not-false _ c.before.if1.false) c.if2.true)
-    (λ c κs. search rules) (λ c. search rules)
+    (tie.spec
+    (λ c κs. search rules)
+    (λ c. outside _ _ _ (sym c.fits2.ensures ∙ c.if-not-fits.true))
+    (λ c. short _ _ _ (sym c.fits2.ensures ∙ c.if-not-fits.false) c.if-room-lt-COMMAND.true)
+    (λ c κs. search rules)
+    (λ c. search rules)
     (λ c.
-    let wrote = c.before.before in
-    let roomy = wrote.before.before in
-    laid _ _ _ (sym roomy.before.before.fits2.ensures ∙ not-false _ roomy.before.if1.false) roomy.if2.false _ _ wrote.write-command.ensures))
+    let wrote = c.before in
+    let roomy = wrote.before in
+    laid _ _ _ (sym roomy.fits2.ensures ∙ not-false _ roomy.if-not-fits.false) roomy.if-room-lt-COMMAND.false _ _ wrote.write_command.ensures))

@@ -11,13 +11,27 @@ pub fits_spec : {M : Type 1} → statement M
 unfolding command_fits
 fits_spec =
     tie.close
-    (tie.spec (λ c. search rules) (λ c κs. search rules) (λ c. search rules) (λ c. search rules) (λ c κs. search rules) (λ c. search rules)
-    (λ c κs. search rules) (λ c. search rules) (λ c κs. search rules) (λ c. search rules) (λ c. search rules) (λ c. search rules)
-    (λ c. rw c.before.before.command.given.1 c.fields_fit.ensures) (λ c. rw c.enum_told.given.1)
-    (λ c. rw c.before.before.command2.given.1 c.fields-fit2.ensures)
+    (tie.spec
+    (λ c. search rules)
+    (λ c κs. search rules)
+    (λ c. search rules)
+    (λ c. search rules)
+    (λ c κs. search rules)
+    (λ c. search rules)
+    (λ c κs. search rules)
+    (λ c. search rules)
+    (λ c κs. search rules)
+    (λ c. search rules)
+    (λ c. search rules)
+    (λ c. search rules)
+    (λ c. rw c.in-Initialise.is c.fields_fit.ensures)
+    (λ c. rw c.in-Status.is)
+    (λ c. rw c.in-Update.is c.fields_fit-in-Update.ensures)
     (λ c.
-    let shown = c.before.before.command3.given in
+    let shown = c.command-in-Write-1.given in
     let back : to_z w32 (of_z w32 shown.0.1.0) ≡ shown.0.1.0 = search rules in
     rw shown.1 (rw back at c.in_bounds.ensures))
-    (λ c. rw c.before.before.command4.given.1 c.is_id_lem.ensures) (λ c. rw c.enum-told2.given.1) (λ c. rw c.enum-told3.given.1)
-    (λ c. rw c.enum-told4.given.1))
+    (λ c. rw c.in-Read.is c.is_id.ensures)
+    (λ c. rw c.in-Priority.is)
+    (λ c. rw c.in-Data.is)
+    (λ c. rw c.in-Shutdown.is))

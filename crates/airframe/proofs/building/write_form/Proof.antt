@@ -8,6 +8,12 @@ pub write_form_spec : {M : Type 1} → statement M
 unfolding acknowledgement_bytes
 write_form_spec =
     tie.close
-    (tie.spec (λ c. search rules) (λ c κs. search rules) (λ c. search rules) (λ c κs. search rules) (λ c. search rules)
-    (λ c. rw c.before.before.before.before.enum_told.given.1 c.before.before.write_done.ensures) (λ c. search rules)
-    (λ c. rw c.before.before.before.before.before.form.given.1 c.before.before.write-error.ensures))
+    (tie.spec
+    (λ c. search rules)
+    (λ c κs. search rules)
+    (λ c. search rules)
+    (λ c κs. search rules)
+    (λ c. search rules)
+    (λ c. rw c.in-Taken.is c.write_done.ensures)
+    (λ c. search rules)
+    (λ c. rw c.in-Failed.is c.write_error.ensures))

@@ -6,4 +6,6 @@ use Rattle.airframe.proofs.reading.block.Tie as tie
 
 pub block_spec : {M : Type 1} → statement M
 unfolding block_in
-block_spec = tie.close (tie.spec (λ c κs. search rules) (λ c. c.part.ensures))
+block_spec = tie.close (tie.spec
+    (λ c κs. search rules)
+    (λ c. c.part.ensures))

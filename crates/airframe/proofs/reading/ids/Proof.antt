@@ -6,4 +6,6 @@ use Rattle.airframe.proofs.reading.ids.Tie as tie
 
 pub ids_spec : {M : Type 1} → statement M
 unfolding ids_in
-ids_spec = tie.close (tie.spec (λ c κs. search rules) (λ c. c.part.ensures))
+ids_spec = tie.close (tie.spec
+    (λ c κs. search rules)
+    (λ c. c.part.ensures))

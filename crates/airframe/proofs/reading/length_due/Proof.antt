@@ -8,8 +8,15 @@ pub length_due_spec : {M : Type 1} → statement M
 unfolding code_row find_in
 length_due_spec =
     tie.close
-    (tie.spec (λ c. rw c.match.keys1) (λ c. rw c.match.keys2) (λ c. rw c.match.keys3) (λ c. rw c.match.keys4)
-    (λ c. rw c.match.keys5) (λ c. rw c.match.keys6) (λ c. rw c.match.keys7) (λ c. rw c.match.keys8)
+    (tie.spec
+    (λ c. rw c.in-144.is)
+    (λ c. rw c.in-145.is)
+    (λ c. rw c.in-146.is)
+    (λ c. rw c.in-147.is)
+    (λ c. rw c.in-148.is)
+    (λ c. rw c.in-149.is)
+    (λ c. rw c.in-150.is)
+    (λ c. rw c.in-159.is)
     (λ c.
-    let rest = c.match.rest in
-    rw (no_row c.before.args.code rest.0.0.0.0.0.0.0.1 rest.0.0.0.0.0.0.1 rest.0.0.0.0.0.1 rest.0.0.0.0.1 rest.0.0.0.1 rest.0.0.1 rest.0.1 rest.1)))
+    let rest = c.in_default.rest in
+    rw (no_row c.args.code rest.0.0.0.0.0.0.0.1 rest.0.0.0.0.0.0.1 rest.0.0.0.0.0.1 rest.0.0.0.0.1 rest.0.0.0.1 rest.0.0.1 rest.0.1 rest.1)))

@@ -8,5 +8,11 @@ use Rattle.airframe.proofs.reading.right.Tie as tie
 pub right_spec : {M : Type 1} → statement M
 right_spec =
     tie.close
-    (tie.spec (λ c. sym (cut_short _ _ c.if1.true)) (λ c κs. search rules) (λ c. search rules) (λ c. search rules) (λ c κs. search rules)
-    (λ c. search rules) (λ c. rw (c.before.before.before.before.length-due.ensures, c.before.crc-right.ensures) (sym (tested _ _))))
+    (tie.spec
+    (λ c. sym (cut_short _ _ c.if-answer-lt5.true))
+    (λ c κs. search rules)
+    (λ c. search rules)
+    (λ c. search rules)
+    (λ c κs. search rules)
+    (λ c. search rules)
+    (λ c. rw (c.length_due-due.ensures, c.crc_right.ensures) (sym (tested _ _))))

@@ -9,6 +9,16 @@ pub as_none_spec : {M : Type 1} → statement M
 unfolding as_no_reply meaning_said
 as_none_spec =
     tie.close
-    (tie.spec (λ c. search rules) (λ c. search rules) (λ c. search rules) (λ c. search rules) (λ c. search rules) (λ c. search rules)
-    (λ c a. rw c.enum_told.given.1) (λ c a. rw c.enum-told2.given.1) (λ c a. rw c.before.meaning.given.1)
-    (λ c a. rw c.enum-told3.given.1) (λ c a. rw c.enum-told4.given.1) (λ c a. rw c.enum-told5.given.1))
+    (tie.spec
+    (λ c. search rules)
+    (λ c. search rules)
+    (λ c. search rules)
+    (λ c. search rules)
+    (λ c. search rules)
+    (λ c. search rules)
+    (λ c a. rw c.in-Unusable.is)
+    (λ c a. rw c.in-Done.is)
+    (λ c a. rw c.in-Error.is)
+    (λ c a. rw c.in-State.is)
+    (λ c a. rw c.in-Value.is)
+    (λ c a. rw c.in-Block.is))

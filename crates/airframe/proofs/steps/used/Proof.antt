@@ -8,5 +8,12 @@ pub used_spec : {M : Type 1} → statement M
 unfolding heard_said
 used_spec =
     tie.close
-    (tie.spec (λ c. search rules) (λ c. search rules) (λ c. search rules) (λ c. search rules) (λ c a. rw c.enum_told.given.1)
-    (λ c a. rw c.enum-told2.given.1) (λ c a. rw c.enum-told3.given.1) (λ c a. rw c.enum-told4.given.1))
+    (tie.spec
+    (λ c. search rules)
+    (λ c. search rules)
+    (λ c. search rules)
+    (λ c. search rules)
+    (λ c a. rw c.in-Nought.is)
+    (λ c a. rw c.in-One.is)
+    (λ c a. rw c.in-Two.is)
+    (λ c a. rw c.in-Three.is))

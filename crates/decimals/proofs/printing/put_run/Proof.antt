@@ -12,33 +12,33 @@ use Rattle.decimals.proofs.Spell.{run_on, run_end}
 use Rattle.decimals.proofs.printing.put_run.Statement.{statement}
 use Rattle.decimals.proofs.printing.put_run.Tie as tie
 
-abbrev invariant-loop : tie.invariant-loop
+abbrev invariant-loop : tie.invariant-loop-i
 invariant-loop out₀ at numbers to₀ i₀ out to i =
     (i ≤ length numbers) × Left (spelled (naturals numbers)) (spelled (naturals (drop i numbers))) (21 * i) at to out₀ out
 
-abbrev decreases-loop : tie.decreases-loop
+abbrev decreases-loop : tie.decreases-loop-i
 decreases-loop out₀ at numbers to₀ i₀ out to i = length numbers - i
 
-put-number-requires : tie.Need-put-number-requires invariant-loop decreases-loop
+put-number-requires : tie.Need-put_number-to-requires invariant-loop decreases-loop
 put-number-requires c κs =
-    let l = c.before.before.before.before.before.before.before.loop in
-    let s = c.before.before.before.before.put-space in
+    let l = c.loop-i in
+    let s = c.put_space-behind in
     omega (arith, s.ensures.place, same_size _ 1 _ _ _ _ s.ensures, l.invariant.1.short, l.invariant.1.size)
 
-loop-again : tie.Need-loop-preserved invariant-loop decreases-loop
+loop-again : tie.Need-loop-i-preserved invariant-loop decreases-loop
 loop-again c =
-    let l = c.before.before.before.before.before.before.before.before.before.before.loop in
-    let ns = c.before.before.before.before.before.before.before.before.before.before.before.before.before.args.numbers.now in
-    let s = c.before.before.before.before.before.before.before.put-space in
-    let w = c.before.before.put-number in
+    let l = c.loop-i in
+    let ns = c.args.numbers.now in
+    let s = c.put_space-behind in
+    let w = c.put_number-to in
     let v = get_or ns l.i 0 in
     let item : List ℕ = (32 ∷ []) ++ decimal v in
     (search rules, one_more _ _ item _ (21 * l.i) 21 _ _ _ _ _ _ _ (run_on ns l.i (omega arith)) (omega arith) l.invariant.1 (both (32 ∷ []) (decimal v) 1 20 _ _ _ _ _ _ s.ensures w.ensures))
 
 returns : tie.Need-returns invariant-loop decreases-loop
 returns c =
-    let l = c.before.loop in
-    let ns = c.before.before.before.before.args.numbers.now in
+    let l = c.loop-i in
+    let ns = c.args.numbers.now in
     whole _ _ (21 * l.i) (21 * length ns) _ _ _ _ (run_end ns l.i (omega arith)) (omega arith) l.invariant.1
 
 pub put_run_spec : {M : Type 1} → statement M
@@ -48,12 +48,12 @@ put_run_spec =
     invariant-loop
     decreases-loop
     (λ c. (search rules, none_left _ _ _))
-    (λ c κs. let l = c.before.before.loop in omega (arith, l.invariant.1.short, l.invariant.1.size))
+    (λ c κs. let l = c.loop-i in omega (arith, l.invariant.1.short, l.invariant.1.size))
     (λ c. search rules)
     (λ c. search rules)
     put-number-requires
     (λ c. search rules)
     (λ c. search rules)
     loop-again
-    (λ c. c.before.loop.invariant.1.size)
+    (λ c. c.loop-i.invariant.1.size)
     returns)

@@ -7,19 +7,19 @@ use Rattle.decimals.proofs.Digits.{empty, the_rest}
 use Rattle.decimals.proofs.reading.number.Statement.{statement}
 use Rattle.decimals.proofs.reading.number.Tie as tie
 
-returns : tie.Need-returns
+returns : tie.Need-returns-then-text-eq0
 unfolding number_in digits_in
-returns c = rw (empty c.before.before.args.text.now c.if1.true)
+returns c = rw (empty c.args.text.now c.if-text-eq0.true)
 
-returns-2 : tie.Need-returns-2
+returns-2 : tie.Need-returns-then-text-eq45
 unfolding number_in
 returns-2 c =
-    let t = c.before.before.before.before.before.before.args.text.now in
-    rw (c.digits.ensures, the_rest t 1, eq-eqb (get_or t 0 0) 45 c.before.before.if2.true)
+    let t = c.args.text.now in
+    rw (c.digits.ensures, the_rest t 1, eq-eqb (get_or t 0 0) 45 c.if-text-eq45.true)
 
-returns-3 : tie.Need-returns-3
+returns-3 : tie.Need-returns
 unfolding number_in
-returns-3 c = rw (c.digits2.ensures, ne_eqb (get_or c.before.before.before.before.before.args.text.now 0 0) 45 c.before.if2.false)
+returns-3 c = rw (c.digits-2.ensures, ne_eqb (get_or c.args.text.now 0 0) 45 c.if-text-eq45.false)
 
 pub number_spec : {M : Type 1} → statement M
 number_spec =

@@ -3,7 +3,7 @@ use mathlib.Core.Path.{◌≡◌}
 use mir.Syntax.{w32}
 use mir.Val.{to_z, of_z}
 use Rattle.packets.specs.Commands.{command_place, command_row}
-use Rattle.packets.specs.Answers.{answer_of, value_answer, body_of, command_bytes}
+use Rattle.packets.specs.Answers.{value_answer, body_of, command_bytes}
 use borrow.Author.Rules.{rules}
 use Rattle.packets.proofs.writing.write_command.Statement.{statement}
 use Rattle.packets.proofs.writing.write_command.Tie as tie
@@ -37,9 +37,8 @@ write_command_spec =
     (λ c. rw c.in-Update.is c.with_fields-in-Update.ensures)
     (λ c. search rules)
     (λ c.
-    let shown = c.command-in-Write-1.given in
-    let back : to_z w32 (of_z w32 shown.0.1.0) ≡ shown.0.1.0 = search rules in
-    rw shown.1 (rw back at c.write_value.ensures))
+    let back : to_z w32 (of_z w32 c.in-Write.value) ≡ c.in-Write.value = search rules in
+    rw c.in-Write.is (rw back at c.write_value.ensures))
     (λ c. search rules)
     (λ c. rw c.in-Read.is c.short.ensures)
     (λ c. search rules)

@@ -1,7 +1,6 @@
 -- `tables::loads::last_word` meets its contract: stored whole, or not at all.
 use borrow.Author.Rules.{rules}
 use mathlib.Core.Path.{sym, ap, ◌∙◌}
-use borrow.Author.Tests.{not-true, not-false}
 use Rattle.tables.specs.Tables.{Three}
 use Rattle.tables.specs.Port.{desk, tabled}
 use Rattle.tables.proofs.Obeying.{beside}
@@ -19,7 +18,7 @@ last_word_spec =
     (λ c κs.
     let e = c.before in
     let s = e.before in
-    (s.requires.0, s.requires.1, s.requires.2, s.requires.3, sym e.right.ensures ∙ not-false _ e.if-not-right.false))
+    (s.requires.0, s.requires.1, s.requires.2, s.requires.3, sym e.right.ensures ∙ e.if-not-right.false))
     (λ c. search rules)
     (λ c. search rules)
     (λ c. search rules)
@@ -28,4 +27,4 @@ last_word_spec =
     let e = p.before in
     let a = e.args in
     ap (λ (s : Three). tabled a.w (desk s a.words)) p.store.ensures
-    ∙ sym (judged_right _ _ _ _ (sym e.right.ensures ∙ not-false _ e.if-not-right.false))))
+    ∙ sym (judged_right _ _ _ _ (sym e.right.ensures ∙ e.if-not-right.false))))

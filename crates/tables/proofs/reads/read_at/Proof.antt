@@ -4,7 +4,7 @@ use mathlib.Core.Path.{◌≡◌, sym, ◌∙◌, ap}
 use mathlib.Core.Bool.{true}
 use Prim.Native.Nat.{ℕ, ◌+◌, ◌≤◌}
 use native.Mathlib.Omega.{arith}
-use borrow.Author.Tests.{not-true, not-false, leb-true}
+use borrow.Author.Tests.{leb-true}
 use Rattle.tables.specs.declared.Places.{Places}
 use Rattle.tables.specs.declared.Given.TheVariants.{Nowhere}
 use Rattle.tables.specs.declared.Transfer.TheVariants.{Read}
@@ -33,7 +33,7 @@ read_at_spec =
     (λ c. record { fits = omega (arith, ends c.before.before, size_most c.args.h.table, c.data_count.ensures) })
     (λ c κs. search rules)
     (λ c.
-    let e = c.before in
+    let e = c.before.before.before in
     let a = e.args in
     ap (λ (q : Places). with_given Nowhere (with_places q (with_transfer (Read a.h 0 a.at) a.w)))
     (c.with_place-places.ensures ∙ ap (λ (k : ℕ). with_read_place a.h.table (a.at + k) a.w.places) c.data_count.ensures)

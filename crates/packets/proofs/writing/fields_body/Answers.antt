@@ -8,9 +8,7 @@ use Rattle.numbers.specs.Numbers.{high_first}
 use Rattle.numbers.specs.Layout.{laid_out}
 use Rattle.packets.specs.declared.Fields.{Fields}
 use Rattle.packets.specs.Answers.{field_bytes}
-use borrow.Author.Rules.{rules}
-use Rattle.packets.proofs.writing.fields_body.Statement.{statement}
-use Rattle.packets.proofs.writing.fields_body.Tie as tie
+use Rattle.packets.proofs.writing.fields_body.Goals as goal
 
 -- four bytes hold no more of a number than it has below their range
 four-cut : (x : ℕ) → high_first 4 (x % 0x1_0000_0000) ≡ high_first 4 x
@@ -39,36 +37,8 @@ stored s f t small cut pa pb pc pd pe pg ph pr =
     let time = four-cut (f.seconds * 1024 + f.milliseconds) in
     pr ∙ rw (ph, pg, pe, pd, pc, pb, pa, cut) (cc)
 
-small : (c : tie.Start) → c.args.f.mode < 256
-small c = omega arith
-
-returns : tie.Need-returns
+pub returns : goal.returns
 returns c =
-    let eighth = c.before in
-    let seventh = eighth.before in
-    let sixth = seventh.before in
-    let fifth = sixth.before in
-    let fourth = fifth.before in
-    let third = fourth.before in
-    let second = third.before in
-    let first = second.before in
-    let start = first.before in
-    stored start.args.body.now start.args.f third.time.result (small start) third.time.ensures
-    first.put_one.ensures second.put_two.ensures third.put_four.ensures fourth.put-two2.ensures fifth.put_two-3.ensures
-    sixth.put_four-2.ensures seventh.put_four-3.ensures eighth.put_two-4.ensures
-
-pub fields_body_spec : {M : Type 1} → statement M
-fields_body_spec =
-    tie.close
-    (tie.spec
-    (λ c κs. search rules)
-    (λ c κs. search rules)
-    (λ c κs. search rules)
-    (λ c κs. search rules)
-    (λ c κs. search rules)
-    (λ c κs. search rules)
-    (λ c κs. search rules)
-    (λ c κs. search rules)
-    (λ c κs. search rules)
-    (λ c. search rules)
-    returns)
+    stored c.args.body.now c.args.f c.time.result (omega arith) c.time.ensures
+    c.put_one.ensures c.put_two.ensures c.put_four.ensures c.put_two-2.ensures c.put_two-3.ensures
+    c.put_four-2.ensures c.put_four-3.ensures c.put_two-4.ensures

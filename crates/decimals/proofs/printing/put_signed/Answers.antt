@@ -1,0 +1,26 @@
+-- `decimals::printing::put_signed` meets its contract: by the bits. Assumes nothing.
+use Rattle.std.proofs.Common.{arith, rules, ◌≡◌, ◌∙◌, ap, ◌<◌, ◌≤◌, ◌-◌, [], ◌∷◌, w32, to_z, of_z}
+use Rattle.numbers.specs.Numbers.{unsigned_of}
+use Rattle.items.specs.Printed.{decimal}
+use Rattle.decimals.proofs.Behind.{appended, both, renamed}
+use Rattle.decimals.proofs.Signs.{low_text, high_text}
+use Rattle.decimals.proofs.printing.put_signed.Goals as goal
+
+pub returns-then-u-lt2147483648 : goal.returns-then-u-lt2147483648
+returns-then-u-lt2147483648 c =
+    let v = c.args.v in
+    let u = c.unsigned-u in
+    let back : to_z w32 (of_z w32 v) ≡ v = search rules in
+    let low : u.result < 0x8000_0000 = search rules in
+    renamed _ _ 20 21 _ _ _ _ (low_text v u.result c.ranges.v.sfits (u.ensures ∙ ap (unsigned_of 4) back) low) (omega arith) c.put_number.ensures
+
+pub returns : goal.returns
+returns c =
+    let v = c.args.v in
+    let u = c.unsigned-u in
+    let e = c.append-behind in
+    let back : to_z w32 (of_z w32 v) ≡ v = search rules in
+    let high : 0x8000_0000 ≤ u.result = search rules in
+    renamed _ _ 21 21 _ _ _ _ (high_text v u.result c.ranges.v.sfits (u.ensures ∙ ap (unsigned_of 4) back) high) (omega arith)
+    (both (45 ∷ []) (decimal (0x1_0000_0000 - u.result)) 1 20 _ _ _ _ _ _
+      (appended (45 ∷ []) 1 _ _ _ _ e.ensures.value e.ensures.out_after (omega arith)) c.put_number-2.ensures)
