@@ -14,6 +14,7 @@ from module import TOP, fail
 SOURCES = TOP / "crates" / "tolmezha" / "src"
 HEADER = TOP / "include" / "tolmezha.h"
 LONGEST = 119  # characters of a line
+MARK = "#[unsafe(no_mangle)]"  # above each export
 
 TOP_OF_IT = """\
 /* The aircraft's half of a survey pod's packets, for C and C++. Made of crates/tolmezha by tests/library/header.py.
@@ -124,9 +125,9 @@ def exported(source):
             if not comment and not (parts and isinstance(parts[-1], Constant)):
                 wrong(number, "a constant without a comment")
             parts.append(Constant(number, line, comment))
-        elif line == "#[no_mangle]":
+        elif line == MARK:
             parts.append(Function(number + 1, head_of(number + 1, lines[number:]), comment))
-        elif lines[number - 2] != "#[no_mangle]" and re.search(r"\b(?:no_mangle|extern|pub)\b", code):
+        elif lines[number - 2] != MARK and re.search(r"\b(?:no_mangle|extern|pub)\b", code):
             wrong(number, "an export of another form than is known")
         comment = comment + [remark.strip()] if line.startswith("//") else []
     return parts

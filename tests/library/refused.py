@@ -1,6 +1,7 @@
 """What must be refused: exports that tests/library/header.py can't write down, and builds of which `./run library` may
 leave no archive."""
 import os
+import re
 import shutil
 import signal
 import subprocess
@@ -11,12 +12,13 @@ from pathlib import Path
 import header
 from module import TOP, fail
 
-MARK = "#[no_mangle]\n"
+MARK = header.MARK + "\n"
 SIGN = 'pub extern "C" fn tolmezha_crc(bytes: &[u8]) -> u32'
 # in the source of the exports, the first of each is changed; the line that is then named lies so far behind it
 EDITS = (
     (MARK + SIGN, SIGN, 0),
-    (MARK, "#[no_mangle] // a mark\n", 0),
+    (MARK, MARK.replace("\n", " // a mark\n"), 0),
+    (MARK, "#[no_mangle]\n", 0),
     (MARK, "\n" + MARK, 2),
     (MARK, "// ends early */\n" + MARK, 0),
     (MARK + SIGN, MARK + SIGN.replace('"C" ', ""), 1),
@@ -30,9 +32,9 @@ EDITS = (
     (SIGN, SIGN.replace("u32", "u64"), 0),
     (SIGN, SIGN.replace("u32", "u16"), 0),
     (SIGN, SIGN.replace(" -> u32", ""), 0),
-    (SIGN + "\n", SIGN + "\n    requires { ⌜ 1 < length bytes ⌝ }\n", 0),
+    (SIGN + "\n", SIGN + "\n    requires { 1 < length bytes.now }\n", 0),
     (SIGN + "\n    ensures", SIGN + "\n    decreases", 0),
-    ("{\n    crc::crc_of(bytes)", "    requires { ⌜ 1 < length bytes ⌝ }\n{\n    crc::crc_of(bytes)", -2),
+    ("{\n    crc::crc_of(bytes)", "    requires { 1 < length bytes.now }\n{\n    crc::crc_of(bytes)", -2),
     ("mod building;", "pub mod building;", 0),
     ("= 25;", "= 5 * 5;", 0),
     ("= 25;", "= 32768;", 0),
@@ -41,16 +43,18 @@ EDITS = (
     ("pub const ROOM: usize", "pub const ROOM: u64", 0),
 )
 STAND_IN = """#!/bin/sh
-# stands in for rt: leaves and says what rt does, and ends with the status that the test gives it
-echo "$1" >>calls
-status=$(cat "$1")
+# stands in for rt, which works where it is called: leaves and says what rt does, and ends with the status that the test gives it
+if [ "$1" = version ]; then exec cat "${0%/*}/version"; fi
+top=$PWD/../..
+echo "$1 ${PWD##*/}" >>"$top/calls"
+status=$(cat "$top/status")
 [ "$status" != stay ] || exec sleep 600
-if [ "$status" != 0 ]; then echo "rt: $2 NOT PROVED"; exit "$status"; fi
-case $1 in
-check) mkdir -p target/stamp && cp files target/stamp/tolmezha && echo "rt: $2 proved (0 s)" ;;
-staticlib) mkdir -p target/staticlib && cp files target/staticlib/libtolmezha.a ;;
-esac
+mkdir -p out && cp src/lib.rt out/made
+if [ "$status" = change ]; then printf %s "$status" >src/lib.rt && echo 0 >"$top/status" && status=0; fi
+if [ "$status" != 0 ]; then echo "logic=not-proved"; exit "$status"; fi
+mv out/made out/libtolmezha.a && echo "logic=proved"
 """
+CALL = "lib tolmezha"  # of rt, and in which crate's folder
 
 
 def exports():
@@ -80,48 +84,54 @@ class Desk:
         for name in ("run", "crates.txt"):
             shutil.copy(TOP / name, self.top)
         shutil.copytree(TOP / "include", self.top / "include")
-        (self.top / "bin").mkdir()
-        (self.top / "bin" / "rt").write_text(STAND_IN)
+        for name, value in (("bin/rt", STAND_IN), ("bin/version", "a stand-in\n"), ("crates/session/src/main.rt", "")):
+            self.write(name, value)
         (self.top / "bin" / "rt").chmod(0o755)
 
-    def start(self, files, check=0, staticlib=0):
-        """./run library over such files, where rt ends so."""
-        for name, value in (("files", files), ("check", check), ("staticlib", staticlib), ("calls", "")):
-            (self.top / name).write_text(f"{value}")
+    def write(self, name, value):
+        """A file of the repository."""
+        path = self.top / name
+        path.parent.mkdir(parents=True, exist_ok=True)
+        path.write_text(f"{value}")
+
+    def start(self, files, status=0):
+        """./run library over such a source, where rt ends so."""
+        for name, value in (("status", status), ("calls", ""), ("crates/tolmezha/src/lib.rt", files)):
+            self.write(name, value)
         path = {**os.environ, "PATH": f"{self.top / 'bin'}:{os.environ['PATH']}", "RUN_PROGRESS": "0"}
         pipes = {"stdin": subprocess.DEVNULL, "stdout": subprocess.PIPE, "stderr": subprocess.PIPE, "text": True}
         return subprocess.Popen(["./run", "library"], cwd=self.top, env=path, start_new_session=True, **pipes)
 
     def calls(self):
-        return (self.top / "calls").read_text().split()
+        return (self.top / "calls").read_text().splitlines()
 
-    def builds(self, files, *calls):
-        """A run that leaves the archive of these files, after these calls of rt."""
-        run = self.start(files)
+    def builds(self, files, calls=1, over=None, status=0):
+        """A run that leaves the archive of these files, after so many calls of rt; or over others, which rt ends with changing."""
+        run = self.start(over or files, status)
         said, wrong = run.communicate()
         left = self.archive.read_text() if self.archive.exists() else "no archive"
-        if (run.returncode, left, self.calls(), said.count("\n"), wrong) != (0, files, list(calls), 1, ""):
+        if (run.returncode, left, self.calls(), said.count("\n"), wrong) != (0, files, [CALL] * calls, 1, ""):
             fail(f"./run library over {files}: status {run.returncode}, {self.calls()}, {left}, {said}{wrong}")
 
-    def refuses(self, files, what, **statuses):
+    def refuses(self, files, what, status=0):
         """A run that is refused, and leaves no archive."""
-        run = self.start(files, **statuses)
+        run = self.start(files, status)
         said, wrong = run.communicate()
         if (run.returncode, said, self.archive.exists()) != (1, "", False) or what not in wrong:
             left = "an archive" if self.archive.exists() else "no archive"
-            fail(f"./run library, {statuses}: status {run.returncode}, {left}, {said}{wrong}")
+            fail(f"./run library, rt ending with {status}: status {run.returncode}, {left}, {said}{wrong}")
         self.refused += 1
 
-    def stopped(self, files, at, by):
+    def stopped(self, files, by):
         """A run that is stopped while rt is at work leaves none either."""
-        run = self.start(files, **{at: "stay"})
+        run = self.start(files, "stay")
         begin = time.monotonic()
-        while at not in self.calls() and time.monotonic() < begin + 60:
+        while CALL not in self.calls() and time.monotonic() < begin + 60:
             time.sleep(0.05)
         os.killpg(run.pid, by)
         run.communicate()
         if run.returncode == 0 or self.archive.exists():
-            fail(f"./run library, stopped at {at} by {by.name}: status {run.returncode}, archive: {self.archive.exists()}")
+            fail(f"./run library, stopped by {by.name}: status {run.returncode}, archive: {self.archive.exists()}")
         self.refused += 1
 
 
@@ -129,26 +139,49 @@ def builds():
     """What ./run library leaves, by what rt does."""
     with tempfile.TemporaryDirectory() as folder:
         desk = Desk(folder)
-        desk.builds("one", "check", "staticlib")
-        desk.builds("one", "check")
-        desk.builds("two", "check", "staticlib")
-        desk.refuses("one", "rt: tolmezha NOT PROVED", staticlib=1)
-        desk.refuses("two", "rt: tolmezha NOT PROVED", staticlib=2)
-        desk.builds("two", "check", "staticlib")
-        desk.refuses("one", "rt: tolmezha NOT PROVED", check=1)
-        desk.builds("two", "check")
+        desk.builds("one")
+        desk.builds("one", 0)
+        desk.builds("two")
+        desk.refuses("one", "logic=not-proved", 1)
+        desk.refuses("three", "logic=not-proved", 2)
+        desk.builds("two", 0)
         desk.archive.unlink()
-        desk.builds("two", "check", "staticlib")
+        desk.refuses("two", "logic=not-proved", 1)
+        desk.builds("two")
         for by in (signal.SIGTERM, signal.SIGKILL):
-            desk.stopped("one", "check", by)
-            desk.builds("two", "check")
-            desk.stopped("two", "check", by)
-            desk.builds("one", "check", "staticlib")
-            desk.stopped("two", "staticlib", by)
-            desk.builds("two", "check", "staticlib")
+            desk.stopped("one", by)
+            desk.builds("two", 0)
+            desk.stopped("one", by)
+            desk.builds("one")
+            desk.stopped("two", by)
+            desk.builds("two")
+        other_files(desk)
         (desk.top / "include" / "vectors.txt").unlink()
         desk.refuses("one", "vectors.txt")
     return desk.refused
+
+
+def other_files(desk):
+    """All that the archive is built of counts, and nothing else does; what changes while rt is at work is proved once more."""
+    for name in ("crates/rows/src/lib.rt", "crates/crc/specs/Crc.antt", "crates/airframe/proofs/build/Proof.antt",
+                 "crates/tolmezha/proofs/sent/Answers.antt", "bin/version"):
+        desk.write(name, "other")
+        desk.builds("two")
+        desk.builds("two", 0)
+    lines = (desk.top / "crates.txt").read_text()
+    desk.write("crates.txt", re.sub(r"^packets:", "packets: orders", lines, flags=re.M))
+    desk.builds("two")
+    desk.write("crates.txt", lines)
+    desk.builds("two")
+    desk.write("crates.txt", lines + "# more\n")
+    for name in ("crates/session/src/main.rt", "crates/tolmezha/must-fail/one.edit", "crates/tolmezha/out/libtolmezha.a"):
+        desk.write(name, "other")
+        desk.builds("two", 0)
+    desk.write("target/library/libtolmezha.a", "other")
+    desk.builds("two")
+    desk.write("crates/rows/src/lib.rt", "another")
+    desk.builds("change", 2, "two", "change")
+    desk.builds("change", 0)
 
 
 def all_of():

@@ -59,8 +59,8 @@ class Library(Part):
         """The numbers, by the definition that the promises use."""
         table = self.take("No.", "Name", "When", "Changes", "What to do")
         rules = (ROOT / "crates/airframe/specs/Building.antt").read_text()
-        if list(zip(table.column(1), table.column(0))) != re.findall(r"^refusalNumber (\w+) = (\d+)$", rules, re.M):
-            table.rows[0].fault("the refusals are not those of refusalNumber")
+        if list(zip(table.column(1), table.column(0))) != re.findall(r"^refusal_number (\w+) = (\d+)$", rules, re.M):
+            table.rows[0].fault("the refusals are not those of refusal_number")
         least = re.search(r"row 24 \(ltb \(length room\) (\d+)\)", rules)[1]
         if "fewer than %s bytes" % least not in table.rows[2][2]:
             table.rows[2].fault("the room has %s bytes or more" % least)

@@ -118,5 +118,5 @@ def crates():
     for line in (ROOT / "crates.txt").read_text().split("\n"):
         name, colon, below = line.split("#")[0].partition(":")
         if colon:
-            listed[name.strip()] = below.split()
+            listed[name.split()[0]] = below.split()
     return listed

@@ -61,7 +61,7 @@ class State(Part):
     def check_calls(self):
         """Every function of the pod and every letter of the console has its row, and what it is lent."""
         source = (ROOT / "crates/pod/src/lib.rt").read_text()
-        public = re.findall(r"^pub (?:use \w+::|fn )(\w+)", source, re.M)
+        public = re.findall(r"\w+", " ".join(re.findall(r"^pub (?:use \w+::|fn )(\w+|\{[^}]*\})", source, re.M)))
         for at, listed, whose in ((1, public, "the pod"), (2, list(FORMS), "the second model")):
             if sorted(self.calls.column(at)) != sorted(listed):
                 odd = set(listed) ^ set(self.calls.column(at))

@@ -5,7 +5,7 @@ use native.Mathlib.Omega.{arith}
 use native.Mathlib.Numerals.{add-one}
 use mathlib.Core.Path.{◌≡◌, refl, sym, ap, ap₂, ◌∙◌}
 use mathlib.Core.List.{List, [], ◌∷◌, map}
-use lib.ListN.{length, take, drop, get_or, set, length-set, drop_of_length-le}
+use lib.ListN.{length, take, drop, get_or, set, length-set, length-drop, drop_of_length-le}
 use lib.Seq.{sets, set_out, drop-cons, drop-drop, take_all, take-length}
 use lib.Dec.{eqb}
 use Rattle.scans.specs.Scans.{index_of, slice}
@@ -20,9 +20,19 @@ unfolding pieces items_in index_of
 pieces_cut [] = refl
 pieces_cut (c ∷ cs) = split (eqb c 32) (λ e. rw e) (λ e. rw (e, pieces_cut cs))
 
--- where the kit's search ends
+-- the first space of a text is not behind its end
+pub index_most : (t : List ℕ) → index_of 32 t ≤ length t
+unfolding index_of
+index_most [] = omega arith
+index_most (c ∷ cs) = split (eqb c 32) (λ e. rw e (omega arith)) (λ e. rw e (omega (arith, index_most cs)))
+
+-- where the search ends ..
 pub found_at : (t : List ℕ) (from r : ℕ) → r ≡ from + index_of 32 (slice from (length t) t) → r ≡ from + index_of 32 (drop from t)
 found_at t from r e = e ∙ ap (λ (l : List ℕ). from + index_of 32 (drop from l)) (take-length t)
+
+-- .. and that is within the text
+pub found_within : (t : List ℕ) (from r : ℕ) → from ≤ length t → r ≡ from + index_of 32 (drop from t) → r ≤ length t
+found_within t from r h e = omega (arith, index_most (drop from t), length-drop from t)
 
 -- the next number
 pub numbers_on : (t : List ℕ) (i end : ℕ) → i < length t → end ≡ i + 1 + index_of 32 (drop (i + 1) t)

@@ -12,14 +12,18 @@ use Rattle.tolmezha.proofs.tolmezha_block.Tie as tie
 
 copy-requires : tie.Need-copy-requires
 copy-requires c κs =
-    let long : length c.before.before.before.args.block.now ≡ 256 = search rules in
-    rw c.before.block.ensures (omega (arith, few_block c.before.before.before.args.answer.now, long))
+    let long : length c.args.block.now ≡ 256 = search rules in
+    rw c.block-part.ensures (omega (arith, few_block c.args.answer.now, long))
 
-few : (c : tie.After-copy) → length c.before.before.block.result.now ≤ 256
-few c = rw c.before.before.block.ensures (few_block c.before.before.before.before.args.answer.now)
+few : (c : tie.After-copy) → length c.block-part.result.now ≤ 256
+few c = rw c.block-part.ensures (few_block c.args.answer.now)
 
 returns : tie.Need-returns
-returns c = rw (to_z_pos w32 {n = length c.before.before.block.result.now} (omega (arith, few c)), c.copy.ensures, c.before.before.block.ensures)
+returns c = rw (to_z_pos w32 {n = length c.block-part.result.now} (omega (arith, few c)), c.copy.ensures, c.block-part.ensures)
 
 pub tolmezha_block_spec : {M : Type 1} → statement M
-tolmezha_block_spec = tie.close (tie.spec (λ c κs. search rules) copy-requires (λ c. record { sfits = omega (arith, few c) }) returns)
+tolmezha_block_spec = tie.close (tie.spec
+    (λ c κs. search rules)
+    copy-requires
+    (λ c. record { sfits = omega (arith, few c) })
+    returns)

@@ -9,17 +9,24 @@ use Rattle.tolmezha.proofs.Built.{first_large, acknowledgement-outside}
 use Rattle.tolmezha.proofs.tolmezha_failed.Statement.{statement}
 use Rattle.tolmezha.proofs.tolmezha_failed.Tie as tie
 
-returns : tie.Need-returns
+returns : tie.Need-returns-then-code-gt255
 returns c =
-    let a = c.before.before.args in
-    acknowledgement-outside a.code (Failed a.error) a.room.now (rw (first_large a.code c.if1.true))
+    let a = c.args in
+    acknowledgement-outside a.code (Failed a.error) a.room.now (rw (first_large a.code c.if-code-gt255.true))
 
-returns-2 : tie.Need-returns-2
+returns-2 : tie.Need-returns-then-error-gt255
 returns-2 c =
-    let a = c.before.before.before.args in
-    acknowledgement-outside a.code (Failed a.error) a.room.now (rw (le-ltb a.error 256 (omega (arith, c.if2.true)), and-false (first_fits a.code)))
+    let a = c.args in
+    acknowledgement-outside a.code (Failed a.error) a.room.now (rw (le-ltb a.error 256 (omega (arith, c.if-error-gt255.true)), and-false (first_fits a.code)))
 
 pub tolmezha_failed_spec : {M : Type 1} → statement M
 tolmezha_failed_spec =
     tie.close
-    (tie.spec returns returns-2 (λ c. search rules) (λ c. search rules) (λ c κs. lt-ltb c.before.before.before.before.args.error 256 (omega (arith, c.before.if2.false))) (λ c. search rules) (λ c. search rules))
+    (tie.spec
+    returns
+    returns-2
+    (λ c. search rules)
+    (λ c. search rules)
+    (λ c κs. lt-ltb c.args.error 256 (omega (arith, c.if-error-gt255.false)))
+    (λ c. search rules)
+    (λ c. search rules))

@@ -9,11 +9,16 @@ use Rattle.tolmezha.proofs.Built.{command-outside}
 use Rattle.tolmezha.proofs.tolmezha_parameter_read.Statement.{statement}
 use Rattle.tolmezha.proofs.tolmezha_parameter_read.Tie as tie
 
-returns : tie.Need-returns
+returns : tie.Need-returns-then-id-gt255
 unfolding command_typed
 returns c =
-    let a = c.before.before.args in
-    command-outside (Read a.id) a.room.now (le-ltb a.id (2 ^ 8) (omega (arith, c.if1.true)))
+    let a = c.args in
+    command-outside (Read a.id) a.room.now (le-ltb a.id (2 ^ 8) (omega (arith, c.if-id-gt255.true)))
 
 pub tolmezha_parameter_read_spec : {M : Type 1} → statement M
-tolmezha_parameter_read_spec = tie.close (tie.spec returns (λ c. search rules) (λ c κs. search rules) (λ c. search rules) (λ c. search rules))
+tolmezha_parameter_read_spec = tie.close (tie.spec
+    returns
+    (λ c. search rules)
+    (λ c κs. search rules)
+    (λ c. search rules)
+    (λ c. search rules))

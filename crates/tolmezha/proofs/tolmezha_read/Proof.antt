@@ -12,10 +12,14 @@ use Rattle.tolmezha.proofs.tolmezha_read.Tie as tie
 
 returns : tie.Need-returns
 returns c =
-    let a = c.before.before.before.before.before.args in
+    let a = c.args in
     let back : to_z w32 (of_z w32 c.put.result) ≡ c.put.result = search rules in
-    let read = c.before.before.read.ensures ∙ c.before.before.before.byte.ensures a.answer.now in
-    ap (λ (z : ℤ). out z tt c.put.new.1.1.0) back ∙ c.put.ensures ∙ ap (λ (m : Said Meant). read_answered m a.values.now) read
+    let read = c.read.ensures ∙ c.byte.ensures a.answer.now in
+    ap (λ (z : ℤ). out z tt c.put.new.values) back ∙ c.put.ensures ∙ ap (λ (m : Said Meant). read_answered m a.values.now) read
 
 pub tolmezha_read_spec : {M : Type 1} → statement M
-tolmezha_read_spec = tie.close (tie.spec (λ c κs. search rules) (λ c κs. search rules) (λ c κs. search rules) returns)
+tolmezha_read_spec = tie.close (tie.spec
+    (λ c κs. search rules)
+    (λ c κs. search rules)
+    (λ c κs. search rules)
+    returns)

@@ -11,18 +11,23 @@ use Rattle.tolmezha.specs.Numbers.{sent_answered}
 use Rattle.tolmezha.proofs.tolmezha_sent.Statement.{statement}
 use Rattle.tolmezha.proofs.tolmezha_sent.Tie as tie
 
-returns : tie.Need-returns
+returns : tie.Need-returns-then-code-gt255
 unfolding sent_answered ran
 returns c =
-    let large : ltb c.before.args.code (2 ^ 8) ≡ false = le-ltb c.before.args.code (2 ^ 8) (omega (arith, c.if1.true)) in
+    let large : ltb c.args.code (2 ^ 8) ≡ false = le-ltb c.args.code (2 ^ 8) (omega (arith, c.if-code-gt255.true)) in
     rw large
 
-returns-2 : tie.Need-returns-2
+returns-2 : tie.Need-returns
 unfolding sent_answered ran
 returns-2 c =
-    let e = c.before.before.before in
-    let small : ltb e.before.args.code (2 ^ 8) ≡ true = lt-ltb e.before.args.code (2 ^ 8) (omega (arith, e.if1.false)) in
-    rw (small, c.put-state.ensures, c.before.before.sent.ensures)
+    let e = c.before in
+    let small : ltb e.args.code (2 ^ 8) ≡ true = lt-ltb e.args.code (2 ^ 8) (omega (arith, e.if-code-gt255.false)) in
+    rw (small, c.put_state.ensures, c.sent.ensures)
 
 pub tolmezha_sent_spec : {M : Type 1} → statement M
-tolmezha_sent_spec = tie.close (tie.spec returns (λ c. search rules) (λ c κs. search rules) (λ c κs. search rules) returns-2)
+tolmezha_sent_spec = tie.close (tie.spec
+    returns
+    (λ c. search rules)
+    (λ c κs. search rules)
+    (λ c κs. search rules)
+    returns-2)

@@ -11,10 +11,15 @@ use Rattle.tolmezha.proofs.tolmezha_silence.Tie as tie
 
 returns : tie.Need-returns
 returns c =
-    let h = c.before.before.before in
-    let b = h.before.sending-in in
-    let back : to_z w32 (of_z w32 c.step_of_lem.result) ≡ c.step_of_lem.result = search rules in
-    stepped silence [] _ _ b.result b.ensures h.silence.result (h.silence.ensures []) _ (back ∙ c.step_of_lem.ensures) c.before.leave.ensures
+    let h = c.before in
+    let b = h.sending_in-before in
+    let back : to_z w32 (of_z w32 c.step_of.result) ≡ c.step_of.result = search rules in
+    stepped silence [] _ _ b.result b.ensures h.silence-heard.result (h.silence-heard.ensures []) _ (back ∙ c.step_of.ensures) c.leave.ensures
 
 pub tolmezha_silence_spec : {M : Type 1} → statement M
-tolmezha_silence_spec = tie.close (tie.spec (λ c κs. search rules) (λ c κs. search rules) (λ c κs. search rules) (λ c κs. search rules) returns)
+tolmezha_silence_spec = tie.close (tie.spec
+    (λ c κs. search rules)
+    (λ c κs. search rules)
+    (λ c κs. search rules)
+    (λ c κs. search rules)
+    returns)

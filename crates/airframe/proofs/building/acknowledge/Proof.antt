@@ -1,6 +1,5 @@
 -- `airframe::building::acknowledge` meets its contract: each way out is one law of the room.
 use mathlib.Core.Path.{sym, ◌∙◌}
-use borrow.Author.Tests.{not-true, not-false}
 use Rattle.airframe.specs.Building.{acknowledgement_built, refusal_number, built_said}
 use Rattle.airframe.proofs.Lent.{outside, short, laid}
 use borrow.Author.Rules.{rules}
@@ -20,4 +19,4 @@ acknowledge_spec =
     (λ c.
     let wrote = c.before in
     let roomy = wrote.before in
-    laid _ _ _ (sym roomy.first_fits.ensures ∙ not-false _ roomy.if-not-first_fits.false) roomy.if-room-lt-COMMAND.false _ _ wrote.write_form.ensures))
+    laid _ _ _ (sym roomy.first_fits.ensures ∙ roomy.if-not-first_fits.false) roomy.if-room-lt-COMMAND.false _ _ wrote.write_form.ensures))

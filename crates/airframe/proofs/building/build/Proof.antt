@@ -1,6 +1,5 @@
 -- `airframe::building::build` meets its contract: each way out is one law of the room.
 use mathlib.Core.Path.{sym, ◌∙◌}
-use borrow.Author.Tests.{not-true, not-false}
 use Rattle.airframe.specs.Building.{command_built, refusal_number, built_said}
 use Rattle.airframe.proofs.Lent.{outside, short, laid}
 use borrow.Author.Rules.{rules}
@@ -13,11 +12,11 @@ build_spec =
     tie.close
     (tie.spec
     (λ c κs. search rules)
-    (λ c. outside _ _ _ (sym c.fits2.ensures ∙ c.if-not-fits.true))
-    (λ c. short _ _ _ (sym c.fits2.ensures ∙ c.if-not-fits.false) c.if-room-lt-COMMAND.true)
+    (λ c. outside _ _ _ (sym c.fits.ensures ∙ c.if-not-fits.true))
+    (λ c. short _ _ _ (sym c.fits.ensures ∙ c.if-not-fits.false) c.if-room-lt-COMMAND.true)
     (λ c κs. search rules)
     (λ c. search rules)
     (λ c.
     let wrote = c.before in
     let roomy = wrote.before in
-    laid _ _ _ (sym roomy.fits2.ensures ∙ not-false _ roomy.if-not-fits.false) roomy.if-room-lt-COMMAND.false _ _ wrote.write_command.ensures))
+    laid _ _ _ (sym roomy.fits.ensures ∙ roomy.if-not-fits.false) roomy.if-room-lt-COMMAND.false _ _ wrote.write_command.ensures))

@@ -28,9 +28,8 @@ fits_spec =
     (λ c. rw c.in-Status.is)
     (λ c. rw c.in-Update.is c.fields_fit-in-Update.ensures)
     (λ c.
-    let shown = c.command-in-Write-1.given in
-    let back : to_z w32 (of_z w32 shown.0.1.0) ≡ shown.0.1.0 = search rules in
-    rw shown.1 (rw back at c.in_bounds.ensures))
+    let back : to_z w32 (of_z w32 c.in-Write.value) ≡ c.in-Write.value = search rules in
+    rw c.in-Write.is (rw back at c.in_bounds.ensures))
     (λ c. rw c.in-Read.is c.is_id.ensures)
     (λ c. rw c.in-Priority.is)
     (λ c. rw c.in-Data.is)

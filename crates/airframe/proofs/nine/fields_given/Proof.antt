@@ -11,11 +11,11 @@ use Rattle.airframe.proofs.nine.fields_given.Tie as tie
 returns : tie.Need-returns-then-not-typed
 unfolding given_in
 returns c =
-    let no : fields_typed (fields_nine c.args.n) ≡ false = sym c.type-inv.ensures ∙ c.if-not-typed.true in
+    let no : fields_typed (fields_nine c.args.n) ≡ false = sym c.typed.ensures ∙ c.if-not-typed.true in
     rw no
 
 fitting : (c : tie.Else-not-typed) → fields_typed (fields_nine c.args.n) ≡ true
-fitting c = sym c.type-inv.ensures ∙ c.if-not-typed.false
+fitting c = sym c.typed.ensures ∙ c.if-not-typed.false
 
 returns-2 : tie.Need-returns
 unfolding given_in

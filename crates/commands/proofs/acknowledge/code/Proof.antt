@@ -7,7 +7,15 @@ use Rattle.commands.proofs.acknowledge.code.Tie as tie
 pub code_spec : {M : Type 1} → statement M
 unfolding command_row command_place
 code_spec =
-    tie.close (tie.spec (λ c. search rules) (λ c. search rules) (λ c. search rules) (λ c. search rules) (λ c. search rules) (λ c. search rules)
-    (λ c. rw c.enum_told.given.1) (λ c. rw c.enum-told2.given.1) (λ c. rw c.enum-told3.given.1)
-    (λ c. rw (c.before.before.before.exchange.given.1, c.enum-told4.given.1))
-    (λ c. rw (c.before.before.before.exchange.given.1, c.enum-told5.given.1)))
+    tie.close (tie.spec
+    (λ c. search rules)
+    (λ c. search rules)
+    (λ c. search rules)
+    (λ c. search rules)
+    (λ c. search rules)
+    (λ c. search rules)
+    (λ c. rw c.in-Closed.is)
+    (λ c. rw c.in-Status.is)
+    (λ c. rw c.in-Read.is)
+    (λ c. rw (c.in-Receive.is, c.in-Priority.is))
+    (λ c. rw (c.in-Receive.is, c.in-Ordinary.is)))

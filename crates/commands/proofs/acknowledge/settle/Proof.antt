@@ -8,7 +8,13 @@ use Rattle.commands.proofs.acknowledge.settle.Tie as tie
 pub settle_spec : {M : Type 1} → statement M
 unfolding settled
 settle_spec =
-    tie.close (tie.spec (λ c. search rules) (λ c. search rules) (λ c. search rules) (λ c. search rules)
-    (λ c κs. let s = c.before.before.before in ring_in (pod_in s.args.pod s.requires) c.before.exchange.given.0.0)
-    (λ c. rw c.enum_told.given.1) (λ c. rw c.enum-told2.given.1) (λ c. rw c.enum-told3.given.1)
-    (λ c. rw c.before.before.exchange.given.1 c.drop-from.ensures))
+    tie.close (tie.spec
+    (λ c. search rules)
+    (λ c. search rules)
+    (λ c. search rules)
+    (λ c. search rules)
+    (λ c κs. let s = c.before in ring_in (pod_in s.args.pod s.requires) c.in-Receive.which)
+    (λ c. rw c.in-Closed.is)
+    (λ c. rw c.in-Status.is)
+    (λ c. rw c.in-Read.is)
+    (λ c. rw c.in-Receive.is c.drop_from.ensures))

@@ -8,40 +8,49 @@ use borrow.Author.Rules.{rules}
 use Rattle.commands.proofs.obeying.receive.Statement.{statement}
 use Rattle.commands.proofs.obeying.receive.Tie as tie
 
-returns-2 : tie.Need-returns-2
+returns-2 : tie.Need-returns-then-ring-eq0
 unfolding reply_said
 returns-2 c l =
-    let r = c.before.before.before in
-    rw (c.replied2.ensures, receive_is) (refused_is _ _ _ (after r.before.if1.false (here (eq-eqb _ _ (rw r.ring_of.ensures at c.before.if2.true)))))
+    let r = c.before in
+    rw (c.replied-then-ring-eq0.ensures, receive_is) (refused_is _ _ _ (after r.if-not-pod.false (here (eq-eqb _ _ (rw r.ring_of-ring.ensures at c.if-ring-eq0.true)))))
 
-returns-3 : tie.Need-returns-3
+returns-3 : tie.Need-returns-then-remaining_of-eq0
 unfolding reply_said
 returns-3 c l =
-    let f = c.before.before in
-    let e2 = f.before.before in
-    let r = e2.before.before in
-    rw (c.replied3.ensures, receive_is)
+    let f = c.before in
+    let e2 = f.before in
+    let r = e2.before in
+    rw (c.replied-then-remaining_of-eq0.ensures, receive_is)
     (refused_is _ _ _
-    (after r.before.if1.false
-    (after (ne_eqb _ _ (rw r.ring_of.ensures at e2.if2.false))
-    (here (eq-eqb _ _ (rw f.remaining-of.ensures at c.before.if3.true))))))
+    (after r.if-not-pod.false
+    (after (ne_eqb _ _ (rw r.ring_of-ring.ensures at e2.if-ring-eq0.false))
+    (here (eq-eqb _ _ (rw f.remaining_of.ensures at c.if-remaining_of-eq0.true))))))
 
-returns-4 : tie.Need-returns-4
+returns-4 : tie.Need-returns
 unfolding reply_said
 returns-4 c l =
-    let e3 = c.before.before in
+    let e3 = c.before in
     let f = e3.before in
-    let e2 = f.before.before in
-    let r = e2.before.before in
-    rw (c.replied4.ensures, c.before.with-exchange.ensures, receive_is)
+    let e2 = f.before in
+    let r = e2.before in
+    rw (c.replied-2.ensures, c.with_exchange.ensures, receive_is)
     (given_is _ _ _
-    (past r.before.if1.false
-    (past (ne_eqb _ _ (rw r.ring_of.ensures at e2.if2.false))
-    (past (ne_eqb _ _ (rw f.remaining-of.ensures at e3.if3.false)) none))))
+    (past r.if-not-pod.false
+    (past (ne_eqb _ _ (rw r.ring_of-ring.ensures at e2.if-ring-eq0.false))
+    (past (ne_eqb _ _ (rw f.remaining_of.ensures at e3.if-remaining_of-eq0.false)) none))))
 
 pub receive_spec : {M : Type 1} → statement M
 unfolding reply_said
 receive_spec =
-    tie.close (tie.spec (λ c κs. search rules) (λ c l. rw (c.replied.ensures, receive_is) (refused_is _ _ _ (here c.before.if1.true)))
-    (λ c κs. search rules) (λ c κs. search rules) returns-2 (λ c κs. search rules) (λ c κs. search rules) returns-3 (λ c κs. search rules)
-    (λ c κs. search rules) returns-4)
+    tie.close (tie.spec
+    (λ c κs. search rules)
+    (λ c l. rw (c.replied.ensures, receive_is) (refused_is _ _ _ (here c.if-not-pod.true)))
+    (λ c κs. search rules)
+    (λ c κs. search rules)
+    returns-2
+    (λ c κs. search rules)
+    (λ c κs. search rules)
+    returns-3
+    (λ c κs. search rules)
+    (λ c κs. search rules)
+    returns-4)

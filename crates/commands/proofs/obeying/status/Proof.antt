@@ -9,6 +9,9 @@ use Rattle.commands.proofs.obeying.status.Tie as tie
 pub status_spec : {M : Type 1} → statement M
 unfolding obey_of checks_of reply_said done_by
 status_spec =
-    tie.close (tie.spec (λ c κs. search rules) (λ c l. rw c.replied.ensures (refused_is _ _ _ (here c.before.if1.true)))
-    (λ c κs. search rules) (λ c κs. search rules)
-    (λ c l. rw (c.replied2.ensures, c.before.with-exchange.ensures) (given_is _ _ _ (past c.before.before.if1.false none))))
+    tie.close (tie.spec
+    (λ c κs. search rules)
+    (λ c l. rw c.replied.ensures (refused_is _ _ _ (here c.if-not-pod.true)))
+    (λ c κs. search rules)
+    (λ c κs. search rules)
+    (λ c l. rw (c.replied-2.ensures, c.with_exchange.ensures) (given_is _ _ _ (past c.if-not-pod.false none))))

@@ -23,4 +23,4 @@ returns c =
     let high : 0x8000_0000 ≤ u.result = search rules in
     renamed _ _ 21 21 _ _ _ _ (high_text v u.result c.ranges.v.sfits (u.ensures ∙ ap (unsigned_of 4) back) high) (omega arith)
     (both (45 ∷ []) (decimal (0x1_0000_0000 - u.result)) 1 20 _ _ _ _ _ _
-      (appended (45 ∷ []) 1 _ _ _ _ e.ensures.value e.ensures.out_after (omega arith)) c.put_number-2.ensures)
+    (appended (45 ∷ []) 1 _ _ _ _ e.ensures.value e.ensures.out_after (omega arith)) c.put_number-2.ensures)

@@ -16,23 +16,13 @@ invariant-loop text bytes₀ n₀ i₀ bytes n i =
 abbrev decreases-loop : tie.decreases-loop-i
 decreases-loop text bytes₀ n₀ i₀ bytes n i = length text - i
 
-returns : tie.Need-returns-then-item-gt255 invariant-loop decreases-loop
-returns c =
-    let l = c.loop-i in
-    let a = c.args in
-    let h : l.i + 3 ≤ length a.text.now = omega arith in
-    let over : 255 < c.byte_item-item.result = c.if-item-gt255.true in
-    let off : 255 < byte_item (get_or a.text.now l.i 0) (get_or a.text.now (l.i + 1) 0) (get_or a.text.now (l.i + 2) 0) = omega (arith, c.byte_item-item.ensures) in
-    bad_end a.bytes.now l.bytes l.n (bytes_in (drop l.i a.text.now)) (bytes_in a.text.now) l.invariant.3
-    (byte_off a.text.now l.i h off)
-
 loop-again : tie.Need-loop-i-preserved invariant-loop decreases-loop
 loop-again c =
     let l = c.loop-i in
     let a = c.args in
     let t = a.text.now in
     let h : l.i + 3 ≤ length t = omega arith in
-    let on : byte_item (get_or t l.i 0) (get_or t (l.i + 1) 0) (get_or t (l.i + 2) 0) < 256 = omega (arith, c.byte_item-item.ensures, c.if-item-gt255.false) in (
+    let on : byte_item (get_or t l.i 0) (get_or t (l.i + 1) 0) (get_or t (l.i + 2) 0) < 256 = omega (arith, c.byte_item-item.ensures) in (
       h,
       omega arith,
       simp length-set l.invariant.2,
@@ -70,7 +60,14 @@ bytes_in_spec =
     (λ c. search rules)
     (λ c κs. search rules)
     (λ c. c.loop-i.invariant.2)
-    returns
+    (λ c.
+    let l = c.loop-i in
+    let a = c.args in
+    let h : l.i + 3 ≤ length a.text.now = omega arith in
+    let over : 255 < c.byte_item-item.result = omega arith in
+    let off : 255 < byte_item (get_or a.text.now l.i 0) (get_or a.text.now (l.i + 1) 0) (get_or a.text.now (l.i + 2) 0) = omega (arith, c.byte_item-item.ensures) in
+    bad_end a.bytes.now l.bytes l.n (bytes_in (drop l.i a.text.now)) (bytes_in a.text.now) l.invariant.3
+    (byte_off a.text.now l.i h off))
     (λ c. search rules)
     (λ c. omega arith)
     (λ c. search rules)

@@ -16,23 +16,13 @@ invariant-loop text words₀ n₀ i₀ words n i =
 abbrev decreases-loop : tie.decreases-loop-i
 decreases-loop text words₀ n₀ i₀ words n i = length text - i
 
-returns : tie.Need-returns-then-item-gt65535 invariant-loop decreases-loop
-returns c =
-    let l = c.loop-i in
-    let a = c.args in
-    let h : l.i + 5 ≤ length a.text.now = omega arith in
-    let over : 65535 < c.word_item-item.result = c.if-item-gt65535.true in
-    let off : 65535 < word_item (get_or a.text.now l.i 0) (get_or a.text.now (l.i + 1) 0) (get_or a.text.now (l.i + 2) 0) (get_or a.text.now (l.i + 3) 0) (get_or a.text.now (l.i + 4) 0) = omega (arith, c.word_item-item.ensures) in
-    bad_end a.words.now l.words l.n (words_in (drop l.i a.text.now)) (words_in a.text.now) l.invariant.3
-    (word_off a.text.now l.i h off)
-
 loop-again : tie.Need-loop-i-preserved invariant-loop decreases-loop
 loop-again c =
     let l = c.loop-i in
     let a = c.args in
     let t = a.text.now in
     let h : l.i + 5 ≤ length t = omega arith in
-    let on : word_item (get_or t l.i 0) (get_or t (l.i + 1) 0) (get_or t (l.i + 2) 0) (get_or t (l.i + 3) 0) (get_or t (l.i + 4) 0) < 65536 = omega (arith, c.word_item-item.ensures, c.if-item-gt65535.false) in (
+    let on : word_item (get_or t l.i 0) (get_or t (l.i + 1) 0) (get_or t (l.i + 2) 0) (get_or t (l.i + 3) 0) (get_or t (l.i + 4) 0) < 65536 = omega (arith, c.word_item-item.ensures) in (
       h,
       omega arith,
       simp length-set l.invariant.2,
@@ -74,7 +64,14 @@ words_in_spec =
     (λ c. search rules)
     (λ c κs. search rules)
     (λ c. c.loop-i.invariant.2)
-    returns
+    (λ c.
+    let l = c.loop-i in
+    let a = c.args in
+    let h : l.i + 5 ≤ length a.text.now = omega arith in
+    let over : 65535 < c.word_item-item.result = omega arith in
+    let off : 65535 < word_item (get_or a.text.now l.i 0) (get_or a.text.now (l.i + 1) 0) (get_or a.text.now (l.i + 2) 0) (get_or a.text.now (l.i + 3) 0) (get_or a.text.now (l.i + 4) 0) = omega (arith, c.word_item-item.ensures) in
+    bad_end a.words.now l.words l.n (words_in (drop l.i a.text.now)) (words_in a.text.now) l.invariant.3
+    (word_off a.text.now l.i h off))
     (λ c. search rules)
     (λ c. search rules)
     (λ c. omega arith)

@@ -1,6 +1,8 @@
 -- `tables::bounds::sound` meets its contract: each bound, one after the other.
 use borrow.Author.Rules.{rules}
 use mathlib.Core.Path.{◌∙◌}
+use Prim.Native.Nat.{◌≤◌, ◌<◌}
+use native.Mathlib.Omega.{arith}
 use borrow.Author.Tests.{lt-leb, le-leb}
 use Rattle.tables.specs.Bounds.{sound_places, sound_words}
 use Rattle.tables.proofs.bounds.sound.Statement.{statement}
@@ -12,12 +14,13 @@ sound_spec =
     tie.close
     (tie.spec
     (λ c. rw (lt-leb _ _ c.if-places-gt64.true))
-    (λ c. rw (le-leb _ _ c.if-places-gt64.false, lt-leb _ _ c.if-places-gt128.true))
     (λ c.
-    let e2 = c.before in
-    rw (le-leb _ _ e2.if-places-gt64.false, le-leb _ _ e2.if-places-gt128.false, lt-leb _ _ c.if-places-gt64-2.true))
+    let over : 128 < c.args.w.places.six = omega arith in
+    rw (le-leb _ _ c.if-places-gt64.false, lt-leb _ _ over))
+    (λ c.
+    let within : c.args.w.places.six ≤ 128 = omega arith in
+    rw (le-leb _ _ c.if-places-gt64.false, le-leb _ _ within, lt-leb _ _ c.if-places-gt64-2.true))
     (λ c κs. search rules)
     (λ c.
-    let e3 = c.before in
-    let e2 = e3.before in
-    c.transfer_sound.ensures ∙ rw (le-leb _ _ e2.if-places-gt64.false, le-leb _ _ e2.if-places-gt128.false, le-leb _ _ e3.if-places-gt64-2.false)))
+    let within : c.args.w.places.six ≤ 128 = omega arith in
+    c.transfer_sound.ensures ∙ rw (le-leb _ _ c.if-places-gt64.false, le-leb _ _ within, le-leb _ _ c.if-places-gt64-2.false)))

@@ -14,19 +14,23 @@ use Rattle.tolmezha.proofs.building.acknowledgement.Tie as tie
 number-requires : tie.Need-number-requires
 unfolding acknowledgement_built
 number-requires c κs =
-    let a = c.before.before.before.before.before.args in
-    let b = c.before.before.acknowledge in
+    let a = c.args in
+    let b = c.acknowledge in
     few_built (first_fits a.first) (acknowledgement_bytes a.first a.form) a.room.now b.result _ b.ensures (five_bytes a.first a.form)
 
 returns : tie.Need-returns
 unfolding acknowledgement_built acknowledgement_answered
 returns c =
-    let s = c.before.before.before.before.before.before in
+    let s = c.before in
     let a = s.args in
-    let b = c.before.before.before.acknowledge in
+    let b = c.acknowledge in
     let back : to_z w32 (of_z w32 c.number.result) ≡ c.number.result = search rules in
     rw (s.requires, and-true (first_fits a.first))
     (as_number (first_fits a.first) (acknowledgement_bytes a.first a.form) a.room.now b.result _ b.ensures _ (back ∙ c.number.ensures))
 
 pub acknowledgement_spec : {M : Type 1} → statement M
-acknowledgement_spec = tie.close (tie.spec (λ c κs. search rules) number-requires (λ c. search rules) returns)
+acknowledgement_spec = tie.close (tie.spec
+    (λ c κs. search rules)
+    number-requires
+    (λ c. search rules)
+    returns)

@@ -14,19 +14,23 @@ use Rattle.tolmezha.proofs.building.command.Tie as tie
 number-requires : tie.Need-number-requires
 unfolding command_built
 number-requires c κs =
-    let a = c.before.before.before.before.before.args in
-    let b = c.before.before.build in
+    let a = c.args in
+    let b = c.build in
     few_built (command_fits a.command) (command_bytes a.command) a.room.now b.result _ b.ensures (few_bytes a.command)
 
 returns : tie.Need-returns
 unfolding command_built command_answered
 returns c =
-    let s = c.before.before.before.before.before.before in
+    let s = c.before in
     let a = s.args in
-    let b = c.before.before.before.build in
+    let b = c.build in
     let back : to_z w32 (of_z w32 c.number.result) ≡ c.number.result = search rules in
     rw s.requires
     (as_number (command_fits a.command) (command_bytes a.command) a.room.now b.result _ b.ensures _ (back ∙ c.number.ensures))
 
 pub command_spec : {M : Type 1} → statement M
-command_spec = tie.close (tie.spec (λ c κs. search rules) number-requires (λ c. search rules) returns)
+command_spec = tie.close (tie.spec
+    (λ c κs. search rules)
+    number-requires
+    (λ c. search rules)
+    returns)

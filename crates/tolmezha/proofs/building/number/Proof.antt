@@ -9,21 +9,27 @@ use Rattle.airframe.specs.Building.{built_said}
 use Rattle.tolmezha.proofs.building.number.Statement.{statement}
 use Rattle.tolmezha.proofs.building.number.Tie as tie
 
-cast-result : tie.Need-overflow-cast-result
-cast-result c = record { sfits = omega (arith, c.before.before.before.requires _ c.before.built.given.1) }
+cast-result : tie.Need-overflow_cast-result
+cast-result c = record { sfits = omega (arith, c.requires _ c.in-Bytes.is) }
 
-returns : tie.Need-returns
+returns : tie.Need-returns-in-Bytes
 unfolding built_said
 returns c =
-    rw c.before.built.given.1
-    (to_z_pos w32 (omega (arith, c.before.before.before.requires _ c.before.built.given.1)))
+    rw c.in-Bytes.is
+    (to_z_pos w32 (omega (arith, c.requires _ c.in-Bytes.is)))
 
-returns-2 : tie.Need-returns-2
+returns-2 : tie.Need-returns-in-Refused
 unfolding built_said
 returns-2 c =
     let back : to_z w32 (of_z w32 c.refusal.result) ≡ c.refusal.result = search rules in
-    rw c.before.before.built2.given.1
+    rw c.in-Refused.is
     (back ∙ c.refusal.ensures)
 
 pub number_spec : {M : Type 1} → statement M
-number_spec = tie.close (tie.spec (λ c. search rules) cast-result (λ c. search rules) (λ c κs. search rules) returns returns-2)
+number_spec = tie.close (tie.spec
+    (λ c. search rules)
+    cast-result
+    (λ c. search rules)
+    (λ c κs. search rules)
+    returns
+    returns-2)

@@ -8,4 +8,10 @@ pub refusal_spec : {M : Type 1} → statement M
 unfolding refusal_number
 refusal_spec =
     tie.close
-    (tie.spec (λ c. search rules) (λ c. search rules) (λ c. search rules) (λ c. rw c.enum_told.given.1) (λ c. rw c.enum-told2.given.1) (λ c. rw c.enum-told3.given.1))
+    (tie.spec
+    (λ c. search rules)
+    (λ c. search rules)
+    (λ c. search rules)
+    (λ c. rw c.in-Field.is)
+    (λ c. rw c.in-Wrong.is)
+    (λ c. rw c.in-Room.is))

@@ -41,4 +41,7 @@ nought = refl
 pub byte_spec : {M : Type 1} → statement M
 byte_spec =
     tie.close
-    (tie.spec (λ c. λ a. no_code 0 a nought ∙ sym (no_code c.before.args.code a (large c.before.args.code c.if1.true))) (λ c. search rules) (λ c. search rules))
+    (tie.spec
+    (λ c. λ a. no_code 0 a nought ∙ sym (no_code c.args.code a (large c.args.code c.if-code-gt255.true)))
+    (λ c. search rules)
+    (λ c. search rules))

@@ -1,0 +1,14 @@
+-- By the answer that is taken apart.
+use Rattle.lines.specs.Asked.{counted}
+use borrow.Author.Rules.{rules}
+use Rattle.lines.proofs.asking.samples_of.Statement.{statement}
+use Rattle.lines.proofs.asking.samples_of.Tie as tie
+
+pub samples_of_spec : {M : Type 1} → statement M
+unfolding counted
+samples_of_spec =
+    tie.close (tie.spec
+    (λ c. search rules)
+    (λ c. search rules)
+    (λ c. rw c.in-Good.is)
+    (λ c. rw c.in-Bad.is))
