@@ -2,10 +2,9 @@
 half as firmware makes them, external and not inlined, and for another processor.
 
 A folder of links stands in for the kit, whose clang notes what it is given and then does its work. So what is kept is the
-module of the very run that proved the program.
+module of the very run that proved and built the program.
 """
 import functools
-import os
 import platform
 import re
 import shutil
@@ -33,6 +32,7 @@ CALLS = (
 # those that `repeats` makes: not power on
 REPEATED = CALLS[1:]
 AIRFRAME = ("build", "read")
+RT = ("rt", "rtlib.py")  # the kit's command, which works with the kit that it lies in, links followed
 KEEPER = """#!/bin/sh
 cp module.bc '{keep}.bc' && printf '%s\\n' "$@" >'{keep}.words' && exec '{clang}' "$@"
 """
@@ -74,12 +74,12 @@ def kit():
     """The kit's folder, found by its guide."""
     if not shutil.which("rt"):
         fail("the command rt is missing: install the Rattle kit")
-    return Path(run("rt", "doc").decode().strip().split("/docs/")[0])
+    return Path(run("rt", "doc").decode().strip()).parent
 
 
 def tools():
-    """What the kit has for this machine: compiler, linker, C library, emulator."""
-    return kit() / "on" / platform.machine() / "toolchain"
+    """What the kit has of compiler, linker and C library."""
+    return kit() / "toolchain"
 
 
 def clang(*words):
@@ -95,58 +95,65 @@ def on_x86(program, given):
     return run(*words, input=given)
 
 
-def links(folder, to, but):
-    """A folder of links to the parts of another, but one that is to be another."""
+def links(folder, to, *but):
+    """A folder of links to the parts of another, but those that are to be others."""
     folder.mkdir()
     for part in to.iterdir():
-        if part.name != but:
+        if part.name not in but:
             (folder / part.name).symlink_to(part)
-    return folder / but
 
 
 def keeper(name):
-    """The kit again, but for its clang, which keeps what it is given of a program."""
-    home, own = kit(), tools()
+    """The command of the kit again, but for its clang, which keeps what it is given of a program."""
     place = KEPT / "kit"
     shutil.rmtree(place, ignore_errors=True)
     place.parent.mkdir(parents=True, exist_ok=True)
-    here = links(place, home, "on")
-    here.mkdir()
-    here = links(here / own.parent.name, own.parent, "toolchain")
-    here = links(here, own, "bin")
-    there = links(here, own / "bin", "clang")
-    there.write_text(KEEPER.format(keep=KEPT / name, clang=own / "bin" / "clang"))
+    links(place, kit(), "bin", "toolchain")
+    links(place / "bin", kit() / "bin", *RT)
+    for part in RT:
+        shutil.copy(kit() / "bin" / part, place / "bin")
+    links(place / "toolchain", tools(), "bin")
+    links(place / "toolchain" / "bin", tools() / "bin", "clang")
+    there = place / "toolchain" / "bin" / "clang"
+    there.write_text(KEEPER.format(keep=KEPT / name, clang=tools() / "bin" / "clang"))
     there.chmod(0o755)
-    return place
+    return place / "bin" / "rt"
+
+
+def present(name):
+    """One number for all that a crate is built of."""
+    return run("bash", "-c", '. ./run && sum_of "$0"', name)
 
 
 def kept(name):
-    """Where the module of a proved program lies, proved and compiled again where it isn't of the present files."""
-    module, stamp, seen = KEPT / f"{name}.bc", TOP / "target" / "stamp" / name, KEPT / f"{name}.stamp"
-    check = functools.partial(run, "rt", "check", name, env={**os.environ, "RATTLE_HOME": str(keeper(name))})
-    module.touch()
-    before = module.stat().st_mtime_ns
-    check()
-    if seen.exists() and seen.read_bytes() == stamp.read_bytes():
+    """Where the module of a proved program lies, proved and compiled again where it isn't of the present files; and target/bin
+    has the program."""
+    module, seen, out = KEPT / f"{name}.bc", KEPT / f"{name}.sum", TOP / "crates" / name / "out"
+    run("./run", name, input=b"")
+    now = present(name)
+    if module.exists() and seen.exists() and seen.read_bytes() == now:
         return module
-    if module.stat().st_mtime_ns == before:  # it was proved and compiled before, and not kept
-        stamp.unlink()
-        check()
-    if (TOP / "target" / "obj" / f"{name}.o").read_bytes() != compiled(name, module).read_bytes():
+    for old in (module, seen, out / f"{name}.stamp"):  # by the last one rt sees that there is nothing to compile
+        old.unlink(missing_ok=True)
+    run(keeper(name), "run", cwd=out.parent, input=b"", stderr=subprocess.DEVNULL)
+    if not module.exists():
+        fail(f"nothing was compiled for {name}")
+    if (out / f"{name}.o").read_bytes() != compiled(name, module).read_bytes():
         fail(f"the module kept of {name} is not the one that was compiled")
-    seen.write_bytes(stamp.read_bytes())
+    if present(name) != now:
+        fail(f"while the module of {name} was made, its files have changed")
+    seen.write_bytes(now)
     return module
 
 
 def archived(name):
-    """The same of a library that C programs link: `rt staticlib` proves and compiles it anew whenever it is called."""
-    module, archive = KEPT / f"lib{name}.bc", TOP / "target" / "staticlib" / f"lib{name}.a"
+    """The same of a library that C programs link: `rt lib` proves and compiles it anew whenever it is called."""
+    module, out = KEPT / f"lib{name}.bc", TOP / "crates" / name / "out"
     module.unlink(missing_ok=True)
-    home = {**os.environ, "RATTLE_HOME": str(keeper(f"lib{name}"))}
-    run("rt", "staticlib", name, env=home, stderr=subprocess.DEVNULL)
+    run(keeper(f"lib{name}"), "lib", cwd=out.parent, stderr=subprocess.DEVNULL)
     if not module.exists():
         fail(f"nothing was compiled for lib{name}.a")
-    if run(tools() / "bin" / "llvm-ar", "p", archive) != compiled(f"lib{name}", module).read_bytes():
+    if run(tools() / "bin" / "llvm-ar", "p", out / f"lib{name}.a") != compiled(f"lib{name}", module).read_bytes():
         fail(f"the module kept of lib{name}.a is not the one that was compiled")
     return module
 
@@ -172,7 +179,7 @@ def defined(call):
     crate = "airframe"
     if call not in AIRFRAME:
         names = (TOP / "crates" / "pod" / "src" / "lib.rt").read_text()
-        found = re.findall(rf"^pub use (\w+)::{call};$", names, re.M) or fail(f"the crate pod names no {call}")
+        found = re.findall(rf"^pub use (\w+)::(?:{call}|\{{[^}}]*\b{call}\b[^}}]*\}});$", names, re.M) or fail(f"the crate pod names no {call}")
         crate = found[0]
     return re.compile(rf'^define internal (.*@"{crate}::(?:\w+::)*{call}"\(.*\)) (#\d+ {{)$', re.M)
 
@@ -202,7 +209,7 @@ def for_m4(ir):
     layout = "e-m:e-p:32:32-Fi8-i64:64-v128:64:128-a:0:32-n32-S64"
     ir, one = re.subn(r'^target datalayout = ".*"$', f'target datalayout = "{layout}"', ir, flags=re.M)
     ir, two = re.subn(r'^target triple = ".*"$', 'target triple = "thumbv7em-unknown-none-eabi"', ir, flags=re.M)
-    ir, three = re.subn(r' "probe-stack"="[^"]*"| "target-cpu"="[^"]*"', "", ir)
+    ir, three = re.subn(r' "(?:probe-stack|stack-probe-size|target-cpu)"="[^"]*"', "", ir)
     if (one, two) != (1, 1) or not three:
         fail("the module's head has another form than was known")
     return ir

@@ -21,6 +21,16 @@ NAMES = "initialised mode flags seconds milliseconds poll error timeouts gathere
 NAMES += [part + store for store in "01" for part in ("limit", "remaining", "oldest", "waiting")]
 NAMES += [part + str(id) for part in ("param", "written") for id in range(1, 13)] + ["missing%d" % at for at in range(8)]
 NAMES += ["place5", "place6", "place7", "address"]
+# a checker that says which crate it is at, sees after a while what was made of that, and ends with nothing proved
+CHECKER = """#!/bin/sh
+[ "$1" = run ] || exec echo a stand-in
+echo 'rt: chose --jobs 2 for %s' >&2
+sleep 1.5
+cp '%s' '%s'
+echo 'rt: chose --jobs 2 for console' >&2
+echo 'rt: nothing proved' >&2
+exit 1
+"""
 
 
 class Programs(Part):
@@ -137,15 +147,21 @@ class Programs(Part):
         below, found = crates(), {"console"}
         while any(one not in found for name in found for one in below[name] if one in below):
             found |= {one for name in found for one in below[name] if one in below}
+        first = "console"
+        while any(one in below for one in below[first]):
+            first = next(one for one in below[first] if one in below)
+        due = ["proving %d of %d: %s" % (at, len(found), name) for at, name in ((1, first), (len(found), "console"))]
         with tempfile.TemporaryDirectory() as folder:
-            stand_in = Path(folder) / "rt"
-            stand_in.write_text("#!/bin/sh\nsleep 1.5\necho 'rt: nothing proved'\nexit 1\n")
+            stand_in, early, log = (Path(folder) / name for name in ("rt", "early", "log"))
+            stand_in.write_text(CHECKER % (first, log, early))
             stand_in.chmod(0o755)
             path = "%s:%s" % (folder, os.environ["PATH"])
             for asked_for in ("1", "0"):
-                told = subprocess.run(["./run", "console"], cwd=ROOT, stdin=subprocess.DEVNULL, capture_output=True, check=False,
-                                      env={**os.environ, "PATH": path, "RUN_PROGRESS": asked_for})
-                said = told.stderr.decode()
-                tells = re.search(r"^proving 1 of %d: \w+$" % len(found), said, re.M) is not None
-                if tells != (asked_for == "1") or told.returncode != 1 or "rt: nothing proved" not in said or told.stdout:
+                with log.open("wb") as heard:
+                    told = subprocess.run(["./run", "console"], cwd=ROOT, stdin=subprocess.DEVNULL, stdout=subprocess.PIPE,
+                                          stderr=heard, check=False, env={**os.environ, "PATH": path, "RUN_PROGRESS": asked_for})
+                said = log.read_text()
+                tells = early.read_text().split("\n")[:-1], re.findall("^proving .*$", said, re.M)
+                if tells != ((due[:1], due) if asked_for == "1" else ([], [])) or told.returncode != 1 \
+                        or "rt: nothing proved" not in said or told.stdout:
                     self.desk.fault("./run with RUN_PROGRESS=%s says, with status %d: %s" % (asked_for, told.returncode, said))

@@ -3,10 +3,10 @@
 use Prim.Native.Nat.{ℕ, suc, ◌+◌, ◌-◌, ◌≤◌, ◌<◌}
 use native.Mathlib.Omega.{arith}
 use native.Mathlib.Numerals.{add-one}
-use mathlib.Core.Path.{◌≡◌, refl, sym, ap, ap₂, ◌∙◌}
-use mathlib.Core.List.{List, [], ◌∷◌, map}
-use lib.ListN.{length, take, drop, get_or, set, length-set, length-drop, drop_of_length-le}
-use lib.Seq.{sets, set_out, drop-cons, drop-drop, take_all, take-length}
+use mathlib.Core.Path.{◌≡◌, refl, sym, ap, ◌∙◌}
+use mathlib.Core.List.{List, [], ◌∷◌}
+use lib.ListN.{length, take, drop, get_or, set, length-drop, drop_of_length-le}
+use lib.Seq.{sets, set_out, drop-cons, drop-drop, take-length}
 use lib.Dec.{eqb}
 use Rattle.scans.specs.Scans.{index_of, slice}
 use Rattle.rows.proofs.Bool.{split}

@@ -3,8 +3,8 @@
 use Prim.Native.Nat.{ℕ, suc, ◌-◌, ◌^◌, ◌/◌, ◌<◌, ◌≤◌}
 use native.Mathlib.Omega.{arith}
 use mathlib.Core.Path.{◌≡◌, sym, ap, ◌∙◌}
-use mathlib.Core.List.{List, ◌∷◌}
-use lib.IntN.{ℤ, pos, negsuc}
+use mathlib.Core.List.{◌∷◌}
+use lib.IntN.{ℤ}
 use lib.Signed.{mag}
 use Rattle.numbers.specs.Numbers.{signed_of, unsigned_of}
 use Rattle.numbers.proofs.Complement.{low_is, high_is, signed_back, unsigned_below}

@@ -7,7 +7,7 @@ use mathlib.Core.List.{List, [], ◌∷◌, map}
 use mathlib.Core.Logic.{◌⊎◌, inl, inr}
 use borrow.Author.Tests.{le-ltb, lt-ltb, ne_eqb}
 use lib.Dec.{ltb}
-use lib.IntN.{ℤ, pos}
+use lib.IntN.{ℤ}
 use Rattle.rows.specs.Rows.{Out, out, ran}
 use Rattle.rows.proofs.Bool.{split}
 use Rattle.airframe.specs.declared.Left.{Left}

@@ -8,9 +8,22 @@ use Rattle.answers.proofs.number.Tie as tie
 pub number_spec : {M : Type 1} → statement M
 unfolding refusal_number
 number_spec =
-    tie.close (tie.spec (λ c. search rules) (λ c. search rules) (λ c. search rules) (λ c. search rules) (λ c. search rules) (λ c. search rules)
-    (λ c. search rules) (λ c. search rules) (λ c. search rules) (λ c. (rw c.enum_told.given.1, omega arith)) (λ c. (rw c.enum-told2.given.1, omega arith))
-    (λ c. (rw c.enum-told3.given.1, omega arith)) (λ c. (rw c.enum-told4.given.1, omega arith))
-    (λ c. (rw c.enum-told5.given.1, omega arith)) (λ c. (rw c.enum-told6.given.1, omega arith))
-    (λ c. (rw c.enum-told7.given.1, omega arith)) (λ c. (rw c.enum-told8.given.1, omega arith))
-    (λ c. (rw c.enum-told9.given.1, omega arith)))
+    tie.close (tie.spec
+    (λ c. search rules)
+    (λ c. search rules)
+    (λ c. search rules)
+    (λ c. search rules)
+    (λ c. search rules)
+    (λ c. search rules)
+    (λ c. search rules)
+    (λ c. search rules)
+    (λ c. search rules)
+    (λ c. (rw c.in-Room.is, omega arith))
+    (λ c. (rw c.in-Size.is, omega arith))
+    (λ c. (rw c.in-State.is, omega arith))
+    (λ c. (rw c.in-Count.is, omega arith))
+    (λ c. (rw c.in-Over.is, omega arith))
+    (λ c. (rw c.in-Asleep.is, omega arith))
+    (λ c. (rw c.in-Full.is, omega arith))
+    (λ c. (rw c.in-Busy.is, omega arith))
+    (λ c. (rw c.in-Eight.is, omega arith)))

@@ -2,7 +2,6 @@
 use borrow.Author.Rules.{rules}
 use mathlib.Core.Path.{◌≡◌, sym, ap, ◌∙◌}
 use mathlib.Core.Bool.{true, false}
-use Rattle.rows.proofs.Bool.{not-true, not-false}
 use Rattle.airframe.specs.declared.Given.TheVariants.{Inside}
 use Rattle.airframe.specs.Given.{fields_nine, fields_typed, given_in}
 use Rattle.airframe.proofs.nine.fields_given.Statement.{statement}

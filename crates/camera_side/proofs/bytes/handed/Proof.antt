@@ -6,4 +6,6 @@ use Rattle.camera_side.proofs.bytes.handed.Tie as tie
 
 pub handed_spec : {M : Type 1} → statement M
 unfolding answer_said
-handed_spec = tie.close (tie.spec (λ c κs. search rules) (λ c. rw c.with-pipe.ensures))
+handed_spec = tie.close (tie.spec
+    (λ c κs. search rules)
+    (λ c. rw c.with_pipe.ensures))

@@ -12,22 +12,24 @@ use Rattle.camera_side.proofs.bytes.out_gate.Tie as tie
 pub out_gate_spec : {M : Type 1} → statement M
 unfolding refusal_number
 out_gate_spec =
-    tie.close (tie.spec (λ c κs. search rules) (λ c. here (as_row c.before.sound.ensures c.if1.true))
-    (λ c. let e1 = c.before in after (as_row e1.before.sound.ensures e1.if1.false) (here (ap not (ne_eqb _ _ c.if2.true))))
+    tie.close (tie.spec
+    (λ c κs. search rules)
+    (λ c. here (as_row c.sound.ensures (ap not c.if-not-sound.true)))
+    (λ c. let e1 = c.before in after (as_row e1.sound.ensures (ap not e1.if-not-sound.false)) (here (ap not (ne_eqb _ _ c.if-bytes-ne8.true))))
     (λ c.
-    let e2 = c.before.before in
+    let e2 = c.before in
     let e1 = e2.before in
-    after (as_row e1.before.sound.ensures e1.if1.false) (after (ap not (eq-eqb _ _ e2.if2.false)) (here c.if3.true)))
+    after (as_row e1.sound.ensures (ap not e1.if-not-sound.false)) (after (ap not (eq-eqb _ _ e2.if-bytes-ne8.false)) (here c.if-not-pod.true)))
     (λ c κs. search rules)
     (λ c.
-    let e3 = c.before.before.before in
-    let e2 = e3.before.before in
+    let e3 = c.before in
+    let e2 = e3.before in
     let e1 = e2.before in
-    after (as_row e1.before.sound.ensures e1.if1.false)
-    (after (ap not (eq-eqb _ _ e2.if2.false)) (after e3.if3.false (here (sym c.before.busy.ensures ∙ c.if4.true)))))
+    after (as_row e1.sound.ensures (ap not e1.if-not-sound.false))
+    (after (ap not (eq-eqb _ _ e2.if-bytes-ne8.false)) (after e3.if-not-pod.false (here (sym c.busy.ensures ∙ c.if-busy.true)))))
     (λ c.
-    let e3 = c.before.before.before in
-    let e2 = e3.before.before in
+    let e3 = c.before in
+    let e2 = e3.before in
     let e1 = e2.before in
-    past (as_row e1.before.sound.ensures e1.if1.false)
-    (past (ap not (eq-eqb _ _ e2.if2.false)) (past e3.if3.false (past (sym c.before.busy.ensures ∙ c.if4.false) none)))))
+    past (as_row e1.sound.ensures (ap not e1.if-not-sound.false))
+    (past (ap not (eq-eqb _ _ e2.if-bytes-ne8.false)) (past e3.if-not-pod.false (past (sym c.busy.ensures ∙ c.if-busy.false) none)))))

@@ -8,17 +8,23 @@ use borrow.Author.Rules.{rules}
 use Rattle.camera_side.proofs.bytes.packet_out.Statement.{statement}
 use Rattle.camera_side.proofs.bytes.packet_out.Tie as tie
 
-returns-2 : tie.Need-returns-2
+returns-2 : tie.Need-returns-in-Open
 unfolding lone_call lone_of pipe_of
 returns-2 c =
-    let e = c.before.before.before.before in
-    rw (c.before.packet.ensures, c.before.before.eight.ensures) at c.handed.ensures
-    ∙ given_is _ _ _ (rw e.enum_told.given.1 at e.before.before.out-gate.ensures)
+    let e = c.before in
+    rw (c.packet.ensures, c.eight.ensures) at c.handed.ensures
+    ∙ given_is _ _ _ (rw e.in-Open.is at e.out_gate-gate.ensures)
 
 pub packet_out_spec : {M : Type 1} → statement M
 unfolding lone_call
 packet_out_spec =
-    tie.close (tie.spec (λ c κs. search rules) (λ c. search rules) (λ c κs. search rules) (λ c. search rules)
-    (λ c κs. out-fits c.before.before.before.before.before.args.bytes.now _ (rw c.before.enum_told.given.1 at c.before.before.before.out-gate.ensures)) (λ c κs. search rules) (λ c κs. search rules)
-    (λ c. c.unpassed.ensures ∙ refused_is _ _ _ (rw c.before.before.gate.given.1 at c.before.before.before.before.out-gate.ensures))
+    tie.close (tie.spec
+    (λ c κs. search rules)
+    (λ c. search rules)
+    (λ c κs. search rules)
+    (λ c. search rules)
+    (λ c κs. out-fits c.args.bytes.now _ (rw c.in-Open.is at c.out_gate-gate.ensures))
+    (λ c κs. search rules)
+    (λ c κs. search rules)
+    (λ c. c.unpassed.ensures ∙ refused_is _ _ _ (rw c.in-Shut.is at c.out_gate-gate.ensures))
     returns-2)

@@ -6,4 +6,6 @@ use Rattle.camera_side.proofs.bytes.passed.Tie as tie
 
 pub passed_spec : {M : Type 1} → statement M
 unfolding answer_said
-passed_spec = tie.close (tie.spec (λ c κs. search rules) (λ c. rw c.with-pipe.ensures))
+passed_spec = tie.close (tie.spec
+    (λ c κs. search rules)
+    (λ c. rw c.with_pipe.ensures))

@@ -8,17 +8,23 @@ use borrow.Author.Rules.{rules}
 use Rattle.camera_side.proofs.bytes.pipe_timeout.Statement.{statement}
 use Rattle.camera_side.proofs.bytes.pipe_timeout.Tie as tie
 
-returns-2 : tie.Need-returns-2
+returns-2 : tie.Need-returns-in-Open
 unfolding lone_call lone_of pipe_of
 returns-2 c =
-    let e = c.before.before.before.before.before in
-    rw (c.before.timeout2.ensures, c.before.before.timeout.ensures) at c.passed.ensures
-    ∙ given_is _ _ _ (rw e.enum_told.given.1 at e.before.before.pipe-gate.ensures)
+    let e = c.before in
+    rw (c.timeout-in-Open.ensures, c.timeout.ensures) at c.passed.ensures
+    ∙ given_is _ _ _ (rw e.in-Open.is at e.pipe_gate-gate.ensures)
 
 pub pipe_timeout_spec : {M : Type 1} → statement M
 unfolding lone_call
 pipe_timeout_spec =
-    tie.close (tie.spec (λ c κs. search rules) (λ c. search rules) (λ c κs. search rules) (λ c. search rules)
-    (λ c κs. (pipe_fits _ (rw c.before.before.enum_told.given.1 at c.before.before.before.before.pipe-gate.ensures)).0.0) (λ c κs. search rules) (λ c κs. search rules)
-    (λ c. c.unpassed.ensures ∙ refused_is _ _ _ (rw c.before.before.gate.given.1 at c.before.before.before.before.pipe-gate.ensures))
+    tie.close (tie.spec
+    (λ c κs. search rules)
+    (λ c. search rules)
+    (λ c κs. search rules)
+    (λ c. search rules)
+    (λ c κs. (pipe_fits _ (rw c.in-Open.is at c.pipe_gate-gate.ensures)).0.0)
+    (λ c κs. search rules)
+    (λ c κs. search rules)
+    (λ c. c.unpassed.ensures ∙ refused_is _ _ _ (rw c.in-Shut.is at c.pipe_gate-gate.ensures))
     returns-2)

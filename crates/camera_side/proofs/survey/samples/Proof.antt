@@ -7,15 +7,19 @@ use borrow.Author.Rules.{rules}
 use Rattle.camera_side.proofs.survey.samples.Statement.{statement}
 use Rattle.camera_side.proofs.survey.samples.Tie as tie
 
-returns-2 : tie.Need-returns-2
+returns-2 : tie.Need-returns-in-Open
 unfolding samples_call answer_said
 returns-2 c =
-    let e = c.before.before in
-    rw c.two-frames.ensures (given_is _ _ _ (rw e.enum_told.given.1 at e.before.before.samples-gate.ensures))
+    let e = c.before in
+    rw c.two_frames.ensures (given_is _ _ _ (rw e.in-Open.is at e.samples_gate-gate.ensures))
 
 pub samples_spec : {M : Type 1} → statement M
 unfolding samples_call answer_said
 samples_spec =
-    tie.close (tie.spec (λ c κs. search rules) (λ c. search rules) (λ c. search rules)
-    (λ c κs. let e = c.before in samples_fit _ _ _ (rw e.enum_told.given.1 at e.before.before.samples-gate.ensures))
-    (λ c. refused_is _ _ _ (rw c.before.gate.given.1 at c.before.before.before.samples-gate.ensures)) returns-2)
+    tie.close (tie.spec
+    (λ c κs. search rules)
+    (λ c. search rules)
+    (λ c. search rules)
+    (λ c κs. let e = c.before in samples_fit _ _ _ (rw e.in-Open.is at e.samples_gate-gate.ensures))
+    (λ c. refused_is _ _ _ (rw c.in-Shut.is at c.samples_gate-gate.ensures))
+    returns-2)

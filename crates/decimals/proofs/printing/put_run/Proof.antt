@@ -1,10 +1,9 @@
 -- `decimals::printing::put_run` meets its contract: what is left of the run goes behind what is written. Assumes nothing.
-use Prim.Native.Nat.{ℕ, ◌≤◌, ◌<◌, ◌-◌, ◌+◌, ◌*◌}
+use Prim.Native.Nat.{ℕ, ◌≤◌, ◌-◌, ◌*◌}
 use native.Mathlib.Omega.{arith}
 use borrow.Author.Rules.{rules}
-use mathlib.Core.Path.{◌≡◌, refl, sym, ap, ◌∙◌}
 use mathlib.Core.List.{List, [], ◌∷◌, ◌++◌}
-use lib.ListN.{length, take, drop, get_or}
+use lib.ListN.{length, drop, get_or}
 use Rattle.items.specs.Printed.{decimal}
 use Rattle.decimals.specs.Printing.{spelled, naturals}
 use Rattle.decimals.proofs.Behind.{Left, none_left, one_more, whole, both, same_size}

@@ -2,13 +2,13 @@
 use Prim.Native.Nat.{ℕ, ◌≤◌, ◌<◌, ◌-◌, ◌+◌, ◌*◌, ◌^◌}
 use native.Mathlib.Omega.{arith}
 use borrow.Author.Rules.{rules}
-use mathlib.Core.Path.{◌≡◌, refl, sym, ap, ◌∙◌}
+use mathlib.Core.Path.{◌≡◌, sym, ◌∙◌}
 use mathlib.Core.Bool.{true, false, ◌&&◌}
 use borrow.Author.Tests.{leb-true}
 use lib.Dec.{leb}
 use mathlib.Core.List.{List}
 use lib.ListN.{length, drop, get_or}
-use Rattle.rows.proofs.Bool.{not-true, not-false, and_right}
+use Rattle.rows.proofs.Bool.{and_right}
 use Rattle.decimals.specs.Reading.{is_digit, digits_from, digits_in}
 use Rattle.decimals.proofs.Digits.{digits_end, digit_on, digit-off, digit-bounds, tens, ten_digits}
 use Rattle.decimals.proofs.reading.digits.Statement.{statement}

@@ -11,8 +11,8 @@ unfolding mark_set
 mark_set_spec =
     tie.close
     (tie.spec
-    (λ c. rw (no_id c.before.args.id c.if1.true))
-    (λ c. (is_id_lem c.before.args.id c.if1.false).0)
+    (λ c. rw (no_id c.args.id c.if-not-id.true))
+    (λ c. (is_id_lem c.args.id c.if-not-id.false).0)
     (λ c. search rules)
-    (λ c. omega (arith, is_id_lem c.before.args.id c.if1.false))
-    (λ c. rw (an_id c.before.args.id c.if1.false)))
+    (λ c. omega (arith, is_id_lem c.args.id c.if-not-id.false))
+    (λ c. rw (an_id c.args.id c.if-not-id.false)))

@@ -10,6 +10,6 @@ unfolding missing_set
 missing_set_spec =
     tie.close
     (tie.spec
-    (λ c. rw (le-ltb c.before.args.k 8 c.if1.true))
+    (λ c. rw (le-ltb c.args.k 8 c.if-k-ge8.true))
     (λ c. search rules)
-    (λ c. rw (lt-ltb c.before.args.k 8 (search rules))))
+    (λ c. rw (lt-ltb c.args.k 8 (search rules))))

@@ -7,22 +7,27 @@ use borrow.Author.Rules.{rules}
 use Rattle.packet_port.proofs.port.asked.Statement.{statement}
 use Rattle.packet_port.proofs.port.asked.Tie as tie
 
-write-reply-requires : tie.Need-write-reply-requires
+write-reply-requires : tie.Need-write_reply-count-requires
 write-reply-requires c κs =
-    let o = c.before.before in
-    let s = o.before.before.before.before.before in
+    let o = c.before in
+    let s = o.before in
     let h = s.requires in
-    let next = obeyed_ready _ _ o.obey.result (rw o.before.shut.ensures at o.obey.ensures) h.sound in
+    let next = obeyed_ready _ _ o.obey-obeyed.result (rw o.shut.ensures at o.obey-obeyed.ensures) h.sound in
     (record { room = h.room; priority = h.priority; ordinary = h.ordinary; sound = next.0 }, next.1)
 
 returns : tie.Need-returns
 returns c l =
-    let w = c.before.before in
-    let o = w.before.before.before in
-    let a = o.before.before.before.before.before.args in
+    let w = c.before in
+    let o = w.before in
+    let a = o.args in
     let lent = with_stores a.priority.now a.ordinary.now l in
-    let stay = stores_stay o.obey.result.restart a.priority.now a.ordinary.now l in
-    replied_is _ _ _ (rw o.before.shut.ensures at (o.obey.ensures lent)) (rw stay at (w.write-reply.ensures (cond o.obey.result.restart (with_tables starts lent) lent)))
+    let stay = stores_stay o.obey-obeyed.result.restart a.priority.now a.ordinary.now l in
+    replied_is _ _ _ (rw o.shut.ensures at (o.obey-obeyed.ensures lent)) (rw stay at (w.write_reply-count.ensures (cond o.obey-obeyed.result.restart (with_tables starts lent) lent)))
 
 pub asked_spec : {M : Type 1} → statement M
-asked_spec = tie.close (tie.spec (λ c κs. search rules) (λ c κs. search rules) write-reply-requires (λ c. search rules) returns)
+asked_spec = tie.close (tie.spec
+    (λ c κs. search rules)
+    (λ c κs. search rules)
+    write-reply-requires
+    (λ c. search rules)
+    returns)

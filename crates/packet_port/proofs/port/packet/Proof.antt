@@ -12,41 +12,52 @@ use borrow.Author.Rules.{rules}
 use Rattle.packet_port.proofs.port.packet.Statement.{statement}
 use Rattle.packet_port.proofs.port.packet.Tie as tie
 
-hear-requires : tie.Need-hear-requires
+hear-requires : tie.Need-hear-heard-requires
 hear-requires c κs =
     let e = c.before in
-    let g = e.before.before in
-    let a = g.before.before.before.before.before.before.before.before.before.before.before.before.before.args in
+    let g = e.before in
+    let a = g.args in
     (packet_fits a.room.now a.priority.now a.ordinary.now (three a.five.now a.six.now a.seven.now) bare a.pod
-    e.enum_told.given.1 (g.packet-gate.ensures bare a.pod g.before.before.before.before.before.sound.ensures)).0
+    e.in-Open.is (g.packet_gate-gate.ensures bare a.pod g.sound.ensures)).0
 
 restart-requires : tie.Need-restart-requires
 restart-requires c κs =
-    let e = c.before.before.before.before.before.before.before.before in
-    let g = e.before.before in
-    let a = g.before.before.before.before.before.before.before.before.before.before.before.before.before.args in
+    let e = c.before in
+    let g = e.before in
+    let a = g.args in
     (packet_fits a.room.now a.priority.now a.ordinary.now (three a.five.now a.six.now a.seven.now) bare a.pod
-    e.enum_told.given.1 (g.packet-gate.ensures bare a.pod g.before.before.before.before.before.sound.ensures)).1
+    e.in-Open.is (g.packet_gate-gate.ensures bare a.pod g.sound.ensures)).1
 
-returns-2 : tie.Need-returns-2
+returns-2 : tie.Need-returns-in-Open
 unfolding answer_said
 returns-2 c l =
-    let r = c.before.before.before.before.before.before in
-    let h = r.before.before.before.before.before.before.before in
-    let e = h.before.before in
-    let g = e.before.before in
-    let a = g.before.before.before.before.before.before.before.before.before.before.before.before.before.args in
+    let r = c.before in
+    let h = r.before in
+    let e = h.before in
+    let g = e.before in
+    let a = g.args in
     let t = three a.five.now a.six.now a.seven.now in
-    packet_given a.bytes.now a.room.now a.priority.now a.ordinary.now t l a.pod h.hear.result (h.hear.ensures (with_tables t l)) r.restart.ensures
-    e.enum_told.given.1 (g.packet-gate.ensures l a.pod g.before.before.before.before.before.sound.ensures)
+    packet_given a.bytes.now a.room.now a.priority.now a.ordinary.now t l a.pod h.hear-heard.result (h.hear-heard.ensures (with_tables t l)) r.restart.ensures
+    e.in-Open.is (g.packet_gate-gate.ensures l a.pod g.sound.ensures)
 
 pub packet_spec : {M : Type 1} → statement M
 unfolding packet_call answer_said
 packet_spec =
     tie.close
-    (tie.spec (λ c κs. search rules) (λ c κs. search rules) (λ c. search rules) (λ c. search rules) hear-requires restart-requires (λ c. refl)
-    (λ c. refl) (λ c. refl) (λ c. refl)
-    (λ c l. refused_is _ _ _ (shut-first c.before.gate.given.1 (c.before.before.before.packet-gate.ensures l _ c.before.before.before.before.before.before.before.before.sound.ensures)))
-    (λ c. c.before.before.before.before.before.before.before.before.before.before.before.before.room.given)
-    (λ c. c.before.before.before.before.before.five.given) (λ c. c.before.before.before.six.given) (λ c. c.before.seven.given)
+    (tie.spec
+    (λ c κs. search rules)
+    (λ c κs. search rules)
+    (λ c. search rules)
+    (λ c. search rules)
+    hear-requires
+    restart-requires
+    (λ c. refl)
+    (λ c. refl)
+    (λ c. refl)
+    (λ c. refl)
+    (λ c l. refused_is _ _ _ (shut-first c.in-Shut.is (c.packet_gate-gate.ensures l _ c.sound.ensures)))
+    (λ c. c.room-1.given)
+    (λ c. c.five-1.given)
+    (λ c. c.six-1.given)
+    (λ c. c.seven-1.given)
     returns-2)

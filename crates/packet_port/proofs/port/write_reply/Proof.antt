@@ -13,57 +13,72 @@ use borrow.Author.Rules.{rules}
 use Rattle.packet_port.proofs.port.write_reply.Statement.{statement}
 use Rattle.packet_port.proofs.port.write_reply.Tie as tie
 
-oldest-requires : tie.Need-oldest-requires
+oldest-requires : tie.Need-oldest-block-requires
 unfolding reply_said
 oldest-requires c κs =
-    let shown = c.before.before.reply3.given in
-    let s = c.before.before.before.before.before.before.before in
+    let shown = c.in-Block in
+    let s = c.before in
     let h = s.requires.0 in
-    ((h.priority, h.ordinary), rw c.ring_of.ensures (ring_in (pod_in s.args.pod h.sound) shown.0.0, s.requires.1 shown.0.0 (ap reply_said shown.1)))
+    ((h.priority, h.ordinary), rw c.ring_of.ensures (ring_in (pod_in s.args.pod h.sound) shown.which, s.requires.1 shown.which (ap reply_said shown.is)))
 
-write-data-requires : tie.Need-write-data-requires
+write-data-requires : tie.Need-write_data-requires
 unfolding reply_said
 write-data-requires c κs =
-    let r = c.before.before in
-    let shown = r.before.before.reply3.given in
-    let s = r.before.before.before.before.before.before.before in
+    let r = c.before in
+    let shown = c.in-Block in
+    let s = r.before in
     let h = s.requires.0 in (
       h.room,
-      ap length c.before.oldest.ensures
-          ∙ block_whole shown.0.0 h r.ring_of.result (rw r.ring_of.ensures (ring_in (pod_in s.args.pod h.sound) shown.0.0))
-          (rw r.ring_of.ensures (s.requires.1 shown.0.0 (ap reply_said shown.1))),
+      ap length c.oldest-block.ensures
+          ∙ block_whole shown.which h r.ring_of.result (rw r.ring_of.ensures (ring_in (pod_in s.args.pod h.sound) shown.which))
+          (rw r.ring_of.ensures (s.requires.1 shown.which (ap reply_said shown.is))),
     )
 
-returns-3 : tie.Need-returns-3
+returns-3 : tie.Need-returns-in-Report
 unfolding reply_bytes reply_said meant_body status_answer
 returns-3 c l =
-    let s = c.before.before in
-    rw s.before.before.before.enum-told2.given.1 (rw s.before.report.ensures at s.write-status.ensures)
+    let s = c.before in
+    rw s.in-Report.is (rw s.report.ensures at s.write_status.ensures)
 
-returns-4 : tie.Need-returns-4
+returns-4 : tie.Need-returns-in-Value
 unfolding reply_bytes reply_said meant_body value_answer
 returns-4 c l =
-    let v = c.before.before in
-    let shown = v.before.before.before.reply2.given in
-    let back : to_z w32 (of_z w32 shown.0.1.0) ≡ shown.0.1.0 = search rules in
-    rw shown.1 (rw back at v.write-value.ensures)
+    let v = c.before in
+    let shown = c.in-Value in
+    let back : to_z w32 (of_z w32 shown.value) ≡ shown.value = search rules in
+    rw shown.is (rw back at v.write_value.ensures)
 
-returns-5 : tie.Need-returns-5
+returns-5 : tie.Need-returns-in-Block
 unfolding reply_bytes reply_said meant_body data_answer
 returns-5 c l =
-    let d = c.before.before in
-    let r = d.before.before.before in
-    rw (r.before.before.reply3.given.1, stores_in) (rw (d.before.before.oldest.ensures, r.ring_of.ensures) at d.write-data.ensures)
+    let d = c.before in
+    let r = d.before in
+    rw (r.in-Block.is, stores_in) (rw (d.oldest-block.ensures, r.ring_of.ensures) at d.write_data.ensures)
 
 pub write_reply_spec : {M : Type 1} → statement M
 unfolding reply_bytes reply_said meant_body done_answer
 write_reply_spec =
-    tie.close (tie.spec (λ c. search rules) (λ c κs. omega (arith, c.before.before.before.before.before.before.requires.0.room)) (λ c. search rules)
-    (λ c κs. omega (arith, c.before.before.before.before.before.before.before.requires.0.room)) (λ c. search rules)
-    (λ c κs. c.before.before.before.before.before.before.requires.0.sound)
-    (λ c κs. c.before.before.before.before.before.before.before.requires.0.room) (λ c. search rules)
-    (λ c κs. omega (arith, c.before.before.before.before.before.before.before.requires.0.room)) (λ c. search rules) (λ c κs. search rules) oldest-requires
-    write-data-requires (λ c. search rules)
-    (λ c l. rw c.before.before.before.before.enum_told.given.1 c.before.before.write_done.ensures) (λ c. search rules)
-    (λ c l. rw c.before.before.before.before.before.reply.given.1 c.before.before.write-error.ensures) (λ c. search rules) returns-3
-    (λ c. search rules) returns-4 (λ c. search rules) returns-5)
+    tie.close (tie.spec
+    (λ c. search rules)
+    (λ c κs. omega (arith, c.requires.0.room))
+    (λ c. search rules)
+    (λ c κs. omega (arith, c.requires.0.room))
+    (λ c. search rules)
+    (λ c κs. c.requires.0.sound)
+    (λ c κs. c.requires.0.room)
+    (λ c. search rules)
+    (λ c κs. omega (arith, c.requires.0.room))
+    (λ c. search rules)
+    (λ c κs. search rules)
+    oldest-requires
+    write-data-requires
+    (λ c. search rules)
+    (λ c l. rw c.in-Success.is c.write_done.ensures)
+    (λ c. search rules)
+    (λ c l. rw c.in-Failure.is c.write_error.ensures)
+    (λ c. search rules)
+    returns-3
+    (λ c. search rules)
+    returns-4
+    (λ c. search rules)
+    returns-5)

@@ -15,24 +15,34 @@ use Rattle.word_port.proofs.words.command_word.Tie as tie
 
 command-requires : tie.Need-command-requires
 command-requires c κs =
-    let e = c.before.before.before in
-    let g = e.before.before in
-    (words_fit _ _ (open_clear e.enum_told.given.1 (g.word-gate.ensures _ g.before.before.before.before.sound.ensures))).0
+    let e = c.before in
+    let g = e.before in
+    (words_fit _ _ (open_clear e.in-Open.is (g.word_gate-gate.ensures _ g.sound.ensures))).0
 
-returns-2 : tie.Need-returns-2
+returns-2 : tie.Need-returns-in-Open
 unfolding answer_said
 returns-2 c l =
-    let d = c.before.before.before.before.before.before in
-    let e = d.before.before.before.before in
-    let g = e.before.before in
-    let a = g.before.before.before.before.before.before.before.before.before.args in
-    command-given a.word (desk (three a.five.now a.six.now a.seven.now) l) a.pod (d.command.ensures l) (open_clear e.enum_told.given.1 (g.word-gate.ensures _ g.before.before.before.before.sound.ensures))
+    let d = c.before in
+    let e = d.before in
+    let g = e.before in
+    let a = g.args in
+    command-given a.word (desk (three a.five.now a.six.now a.seven.now) l) a.pod (d.command.ensures l) (open_clear e.in-Open.is (g.word_gate-gate.ensures _ g.sound.ensures))
 
 pub command_word_spec : {M : Type 1} → statement M
 unfolding word_call word_lent answer_said
 command_word_spec =
     tie.close
-    (tie.spec (λ c κs. search rules) (λ c κs. search rules) (λ c. search rules) (λ c. search rules) command-requires (λ c. refl)
-    (λ c. refl) (λ c. refl)
-    (λ c l. refused_is _ _ _ (shut-first c.before.gate.given.1 (c.before.before.before.word-gate.ensures _ c.before.before.before.before.before.before.before.sound.ensures)))
-    (λ c. c.before.before.before.before.before.five.given) (λ c. c.before.before.before.six.given) (λ c. c.before.seven.given) returns-2)
+    (tie.spec
+    (λ c κs. search rules)
+    (λ c κs. search rules)
+    (λ c. search rules)
+    (λ c. search rules)
+    command-requires
+    (λ c. refl)
+    (λ c. refl)
+    (λ c. refl)
+    (λ c l. refused_is _ _ _ (shut-first c.in-Shut.is (c.word_gate-gate.ensures _ c.sound.ensures)))
+    (λ c. c.five-1.given)
+    (λ c. c.six-1.given)
+    (λ c. c.seven-1.given)
+    returns-2)

@@ -1,4 +1,6 @@
 -- `word_port::words::status_word` meets its contract. Assumes nothing.
+use mathlib.Core.Bool.{not}
+use mathlib.Core.Path.{ap}
 use Rattle.rows.specs.Rows.{here, none, past}
 use Rattle.rows.proofs.Bool.{as_row}
 use Rattle.rows.proofs.Laws.{refused_is}
@@ -10,14 +12,17 @@ use borrow.Author.Rules.{rules}
 use Rattle.word_port.proofs.words.status_word.Statement.{statement}
 use Rattle.word_port.proofs.words.status_word.Tie as tie
 
-returns-2 : tie.Need-returns-2
+returns-2 : tie.Need-returns
 unfolding answer_said
 returns-2 c d =
-    let e1 = c.before.before in
-    status_given _ _ c.before.status.ensures (past (as_row e1.before.sound.ensures e1.if1.false) none)
+    let e1 = c.before in
+    status_given _ _ c.status-out.ensures (past (as_row e1.sound.ensures (ap not e1.if-not-sound.false)) none)
 
 pub status_word_spec : {M : Type 1} → statement M
 unfolding word_call word_lent answer_said refusal_number
 status_word_spec =
-    tie.close (tie.spec (λ c κs. search rules) (λ c d. refused_is _ _ _ (here (as_row c.before.sound.ensures c.if1.true)))
-    (λ c κs. search rules) returns-2)
+    tie.close (tie.spec
+    (λ c κs. search rules)
+    (λ c d. refused_is _ _ _ (here (as_row c.sound.ensures (ap not c.if-not-sound.true))))
+    (λ c κs. search rules)
+    returns-2)
