@@ -4,14 +4,15 @@ edit may hold a wrong line for each of several functions, or several wrong rules
 have been refused by itself, each wrong rule at facts that no other rule of its edit has, and under each edit or wrong rule that
 docs/PROMISES.md names for a statement that statement's proof must have failed, by itself or because a law that it goes by failed;
 no edit may be one that is not well formed. rt tells of a refused edit only the first line, so each is tried here once more, on a copy
-of its crate and of those below, and what `rt check` says there is kept as target/must-fail/CRATE/EDIT/.log until one of the files that
-it stands on changes. With names of crates it tries and judges their edits alone. With --facts it tries none, and only prints, of each
-edit that was tried, the facts that failed of themselves."""
+of its crate and of those below, over what `rt check` keeps of them, and what the check says there is kept as
+target/must-fail/CRATE/EDIT/.log until one of the files that it stands on changes. With names of crates it tries and judges their edits
+alone. With --facts it tries none, and only prints, of each edit that was tried, the facts that failed of themselves."""
 import hashlib
 import os
 import pathlib
 import re
 import shutil
+import signal
 import subprocess
 import sys
 import tempfile
@@ -112,12 +113,12 @@ def declared(crate, name):
 
 
 def values(crate):
-    """The file VALUES of a crate."""
+    """The file VALUES of a crate: each statement of its record, by the imports of the record's own file."""
     path = f'crates/{crate}/specs/{WHOLE[crate]}.antt'
-    named = dict(re.findall(r'^use (\S+)\.\{(.*)\}$', (ROOT / path).read_text(), re.M))
-    lines, made = [f'use {module}.{{{names}}}' for module, names in named.items() if '.specs.' in module], []
-    brought = {n.strip() for names in named.values() for n in names.split(',')}
-    own = [s for s in fields(path) if s not in brought]
+    used = re.findall(r'^use (\S+)\.\{(.*)\}$', (ROOT / path).read_text(), re.M)
+    lines, made = [f'use {module}.{{{names}}}' for module, names in used], []
+    brought = ', '.join(names for _, names in used).split(', ')
+    own = [statement for statement in fields(path) if statement not in brought]
     lines += [f'use Rattle.{crate}.specs.{WHOLE[crate]}.{{{", ".join(own)}}}'] if own else []
     for statement in fields(path):
         module, fact = declared(crate, proof_of(statement))
@@ -138,9 +139,9 @@ def linked(one, other):
     return shutil.copy2(one, other)
 
 
-def check(room, crate):
-    """What the check says of a crate in a copy, and the status with which it ends."""
-    ran = subprocess.run(['rt', 'check', '--jobs', '1'], cwd=room / 'crates' / crate, stdin=subprocess.DEVNULL, stdout=subprocess.PIPE, stderr=subprocess.STDOUT,
+def check(top, crate):
+    """What the check says of a crate, here or in a copy, and the status with which it ends."""
+    ran = subprocess.run(['rt', 'check', '--jobs', '1'], cwd=top / 'crates' / crate, stdin=subprocess.DEVNULL, stdout=subprocess.PIPE, stderr=subprocess.STDOUT,
                          errors='replace', check=False)
     return ran.stdout, ran.returncode
 
@@ -176,8 +177,13 @@ class Trial:
         log.unlink(missing_ok=True)
         return False
 
-    def begin(self):
-        """Makes the copy, and whether its crate is proved there."""
+    def begin(self, lower):
+        """Makes the copy, once those below have theirs, and says whether its crate is proved there."""
+        if not all(one.result() for one in lower):
+            fail(f'{self.crate} stands on a crate that is not proved, so its edits were not tried')
+            return False
+        if not self.is_proved(ROOT):
+            return False
         for name in [*below(self.crate), self.crate]:
             for part in PARTS:
                 if (ROOT / 'crates' / name / part).is_dir():
@@ -188,7 +194,10 @@ class Trial:
             (proofs / f'{VALUES}.antt').write_text(self.values)
             with open(proofs / 'Lib.antt', 'a', encoding='utf-8') as lib:
                 lib.write(f'\nmod {VALUES}\n')
-        said, status = check(self.room, self.crate)
+        return self.is_proved(self.room)
+
+    def is_proved(self, top):
+        said, status = check(top, self.crate)
         if status:
             fail(f'{self.crate} is not proved as it stands, so its edits were not tried: {first_of(said)}')
         return not status
@@ -222,12 +231,20 @@ def first_of(said):
 
 
 def attempt_all(crates):
-    """Tries the edits that have no log of the present files, as many at a time as there are processors."""
+    """Tries the edits that have no log of the present files, as many at a time as there are processors, the lowest crates first."""
     with tempfile.TemporaryDirectory(prefix='edits-') as rooms, ThreadPoolExecutor(len(os.sched_getaffinity(0))) as pool:
-        trials = [trial for trial in (Trial(crate, pathlib.Path(rooms)) for crate in crates) if trial.wanted]
-        begun = [pool.submit(trial.begin) for trial in trials]
-        tries = [pool.submit(trial.attempt, edit, ready) for trial, ready in zip(trials, begun) for edit in trial.wanted]
-        for one in [*begun, *tries]:
+
+        def stop(*_):
+            shutil.rmtree(rooms, ignore_errors=True)
+            os._exit(1)
+
+        signal.signal(signal.SIGTERM, stop)
+        trials, begun = {crate: Trial(crate, pathlib.Path(rooms)) for crate in crates}, {}
+        for crate in [name for top in crates for name in [*below(top), top]]:
+            if crate in trials and crate not in begun and trials[crate].wanted:
+                begun[crate] = pool.submit(trials[crate].begin, [begun[name] for name in below(crate) if name in begun])
+        tries = [pool.submit(trials[crate].attempt, edit, ready) for crate, ready in begun.items() for edit in trials[crate].wanted]
+        for one in [*begun.values(), *tries]:
             one.result()
 
 
@@ -254,8 +271,9 @@ def refused(log, name):
     """Whether the function was refused by itself: not for one that it calls, nor because its contract can't be read, nor only because
     its proof names what the edit took away."""
     for path in re.findall(rf'^fn \w+::(\S*\b{name}): (?:not proved$|no proof: expected )', log, re.M):
-        said = re.findall(rf'^\./proofs/{path.replace("::", "/")}/\w+\.antt:\d+:\d+: error: (.*)', log, re.M)
-        if not said or not all(NAMES.search(why) for why in said):
+        file = rf'proofs/{path.replace("::", "/")}/\w+\.antt'
+        said = re.findall(rf'^\./{file}:\d+:\d+: error: `[^`]*`: (.*)', log, re.M)
+        if not said or not all(NAMES.search(why) for why in said) or re.search(rf'^note: `[^`]*` of {file} may be false', log, re.M):
             return True
     return False
 

@@ -7,4 +7,8 @@ use Rattle.aircraft_lines.proofs.asking.heard.Tie as tie
 pub heard_spec : {M : Type 1} → statement M
 unfolding counted
 heard_spec =
-    tie.close (tie.spec (λ c. search rules) (λ c. search rules) (λ c. rw c.before.items.given.1) (λ c. rw c.enum_told.given.1))
+    tie.close (tie.spec
+    (λ c. search rules)
+    (λ c. search rules)
+    (λ c. rw c.in-Good.is)
+    (λ c. rw c.in-Bad.is))

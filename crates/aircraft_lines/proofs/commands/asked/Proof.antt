@@ -23,22 +23,22 @@ count-is ns l e = ap (λ (x : Numbers). x.count) e
 list-is : (ns : Numbers) (l : List Number) → ns ≡ numbers_read l → ns.list ≡ (numbers_read l).list
 list-is ns l e = ap (λ (x : Numbers). x.list) e
 
-returns : tie.Need-returns
+returns : tie.Need-returns-then-numbers-eq0
 returns c l e =
-    let a = c.before.before.before.before.args in
-    c.bare.ensures ∙ bare_says a.code l (sym (count-is a.numbers l e) ∙ c.before.if1.true)
+    let a = c.args in
+    c.bare.ensures ∙ bare_says a.code l (sym (count-is a.numbers l e) ∙ c.if-numbers-eq0.true)
 
-returns-2 : tie.Need-returns-2
+returns-2 : tie.Need-returns-then-numbers-eq9
 returns-2 c l e =
-    let a = c.before.before.before.before.before.before.args in
+    let a = c.args in
     c.nine.ensures
-    ∙ ap (line_asked a.code) (list-is a.numbers l e ∙ nine_firsts l (sym (count-is a.numbers l e) ∙ c.before.if2.true))
+    ∙ ap (line_asked a.code) (list-is a.numbers l e ∙ nine_firsts l (sym (count-is a.numbers l e) ∙ c.if-numbers-eq9.true))
 
-returns-3 : tie.Need-returns-3
+returns-3 : tie.Need-returns-then-numbers-code
 returns-3 c l e =
-    let a = c.before.before.before.before.before.before.before.before.before.before.args in
+    let a = c.args in
     let n = a.numbers.count in
-    let flag = c.before.before.before.if3.true in
+    let flag = c.if-numbers-code.true in
     let two = eqb-true n 2 (and_left (eqb n 2) (eqb a.code 0x93) flag) in
     let code = eqb-true a.code 0x93 (and_right (eqb n 2) (eqb a.code 0x93) flag) in
     c.writes.ensures
@@ -46,11 +46,11 @@ returns-3 c l e =
     ∙ ap (line_asked 0x93) (two_firsts l (sym (count-is a.numbers l e) ∙ two))
     ∙ ap (λ (k : ℕ). line_asked k l) (sym code)
 
-returns-4 : tie.Need-returns-4
+returns-4 : tie.Need-returns-then-numbers-code-2
 returns-4 c l e =
-    let a = c.before.before.before.before.before.before.before.before.before.before.before.args in
+    let a = c.args in
     let n = a.numbers.count in
-    let flag = c.before.before.if4.true in
+    let flag = c.if-numbers-code-2.true in
     let one = eqb-true n 1 (and_left (eqb n 1) (eqb a.code 0x94) flag) in
     let code = eqb-true a.code 0x94 (and_right (eqb n 1) (eqb a.code 0x94) flag) in
     c.reads.ensures
@@ -58,15 +58,26 @@ returns-4 c l e =
     ∙ ap (line_asked 0x94) (one_first l (sym (count-is a.numbers l e) ∙ one))
     ∙ ap (λ (k : ℕ). line_asked k l) (sym code)
 
-returns-5 : tie.Need-returns-5
+returns-5 : tie.Need-returns
 returns-5 c l e =
-    let a = c.before.before.before.before.before.before.before.before.before.args in
+    let a = c.args in
     let n = count-is a.numbers l e in
-    none_says a.code l (λ z. c.before.before.before.before.before.before.if1.false (n ∙ z)) (λ z. c.before.before.before.before.if2.false (n ∙ z))
-    (ap (λ (k : ℕ). eqb k 2 && eqb a.code 0x93) (sym n) ∙ c.before.before.if3.false)
-    (ap (λ (k : ℕ). eqb k 1 && eqb a.code 0x94) (sym n) ∙ c.if4.false)
+    none_says a.code l (λ z. c.if-numbers-eq0.false (n ∙ z)) (λ z. c.if-numbers-eq9.false (n ∙ z))
+    (ap (λ (k : ℕ). eqb k 2 && eqb a.code 0x93) (sym n) ∙ c.if-numbers-code.false)
+    (ap (λ (k : ℕ). eqb k 1 && eqb a.code 0x94) (sym n) ∙ c.if-numbers-code-2.false)
 
 pub asked_spec : {M : Type 1} → statement M
 asked_spec =
-    tie.close (tie.spec (λ c κs. search rules) returns (λ c κs. search rules) returns-2 (λ c. search rules) (λ c. search rules) (λ c κs. search rules)
-    returns-3 (λ c. search rules) (λ c κs. search rules) returns-4 returns-5)
+    tie.close (tie.spec
+    (λ c κs. search rules)
+    returns
+    (λ c κs. search rules)
+    returns-2
+    (λ c. search rules)
+    (λ c. search rules)
+    (λ c κs. search rules)
+    returns-3
+    (λ c. search rules)
+    (λ c κs. search rules)
+    returns-4
+    returns-5)

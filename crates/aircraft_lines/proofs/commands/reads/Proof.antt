@@ -8,18 +8,21 @@ use borrow.Author.Rules.{rules}
 use Rattle.aircraft_lines.proofs.commands.reads.Statement.{statement}
 use Rattle.aircraft_lines.proofs.commands.reads.Tie as tie
 
-returns-2 : tie.Need-returns-2
+returns-2 : tie.Need-returns-then-id-lt256
 returns-2 c =
-    let id = c.before.before.before.before.before.args.id in
-    read_says id (sym c.before.before.before.before.plain.ensures ∙ not-false c.before.before.before.if1.false) (lt-ltb id.size 256 (omega (arith, c.before.if2.true)))
+    let id = c.args.id in
+    read_says id (sym c.plain.ensures ∙ c.if-not-plain.false) (lt-ltb id.size 256 (omega (arith, c.if-id-lt256.true)))
 
-returns-3 : tie.Need-returns-3
+returns-3 : tie.Need-returns
 returns-3 c =
-    let id = c.before.before.before.before.args.id in
-    read-outside id (sym c.before.before.before.plain.ensures ∙ not-false c.before.before.if1.false) (le-ltb id.size 256 (omega (arith, c.if2.false)))
+    let id = c.args.id in
+    read-outside id (sym c.plain.ensures ∙ c.if-not-plain.false) (le-ltb id.size 256 (omega (arith, c.if-id-lt256.false)))
 
 pub reads_spec : {M : Type 1} → statement M
 reads_spec =
-    tie.close (tie.spec (λ c κs. search rules)
-    (λ c. read_none c.before.before.args.id (sym c.before.plain.ensures ∙ not-true c.if1.true))
-    (λ c. search rules) returns-2 returns-3)
+    tie.close (tie.spec
+    (λ c κs. search rules)
+    (λ c. read_none c.args.id (sym c.plain.ensures ∙ c.if-not-plain.true))
+    (λ c. search rules)
+    returns-2
+    returns-3)

@@ -10,25 +10,25 @@ use borrow.Author.Rules.{rules}
 use Rattle.aircraft_lines.proofs.fields.all_plain.Statement.{statement}
 use Rattle.aircraft_lines.proofs.fields.all_plain.Tie as tie
 
-abbrev invariant-loop : tie.invariant-loop
+abbrev invariant-loop : tie.invariant-loop-i
 invariant-loop list all₀ i₀ all i = (i ≤ 9) × ((all && all_plain (drop i list)) ≡ all_plain list)
 
-abbrev decreases-loop : tie.decreases-loop
+abbrev decreases-loop : tie.decreases-loop-i
 decreases-loop list all₀ i₀ all i = 9 - i
 
-loop-again : tie.Need-loop-preserved invariant-loop decreases-loop
+loop-again : tie.Need-loop-i-preserved invariant-loop decreases-loop
 loop-again c =
-    let at = c.before.before.before in
-    let l = at.before.args.t1 in
+    let at = c.before in
+    let l = at.args.list in
     let n : length l ≡ 9 = search rules in
-    (search rules, plain_on l at.loop.i at.loop.all c.plain.result (omega arith) c.plain.ensures at.loop.invariant.1)
+    (search rules, plain_on l at.loop-i.i at.loop-i.all c.plain-all.result (omega arith) c.plain-all.ensures at.loop-i.invariant.1)
 
 returns : tie.Need-returns invariant-loop decreases-loop
 returns c =
     let at = c.before in
-    let l = at.before.args.t1 in
+    let l = at.args.list in
     let n : length l ≡ 9 = search rules in
-    plain_end l at.loop.i at.loop.all (omega arith) at.loop.invariant.1
+    plain_end l at.loop-i.i at.loop-i.all (omega arith) at.loop-i.invariant.1
 
 pub all_plain_spec : {M : Type 1} → statement M
 all_plain_spec =

@@ -14,27 +14,27 @@ use Rattle.aircraft_lines.proofs.fields.nine.Tie as tie
 long : (c : tie.Start) → length c.args.list ≡ 9
 long c = search rules
 
-coded : (c : tie.Else1) → (eqb c.before.args.code 0x90 || eqb c.before.args.code 0x92) ≡ true
-coded c = not-false c.if1.false
+coded : (c : tie.Else-not-code) → (eqb c.args.code 0x90 || eqb c.args.code 0x92) ≡ true
+coded c = c.if-not-code.false
 
-formed : (c : tie.Else2) → all_plain c.before.before.before.args.list ≡ true
-formed c = sym c.before.all_plain.ensures ∙ not-false c.if2.false
+formed : (c : tie.Else-not-all_plain) → all_plain c.args.list ≡ true
+formed c = sym c.all_plain.ensures ∙ c.if-not-all_plain.false
 
-returns-3 : tie.Need-returns-3
+returns-3 : tie.Need-returns
 returns-3 c =
     let e = c.before.before.before in
     let s = e.before.before.before in
     c.send.ensures
-    ∙ ap (line_given (eqb s.args.code 0x90)) (c.before.fields-given.ensures ∙ ap given_in c.before.before.sizes.ensures)
+    ∙ ap (line_given (eqb s.args.code 0x90)) (c.fields_given.ensures ∙ ap given_in c.sizes.ensures)
     ∙ nine_given s.args.code s.args.list (long s) (coded e.before.before) (formed e)
 
 pub nine_spec : {M : Type 1} → statement M
 nine_spec =
     tie.close
     (tie.spec
-    (λ c. let s = c.before in nine_none s.args.code s.args.list (long s) (not-true c.if1.true))
+    (λ c. let s = c.before in nine_none s.args.code s.args.list (long s) c.if-not-code.true)
     (λ c κs. search rules)
-    (λ c. let s = c.before.before.before in nine_signed s.args.code s.args.list (long s) (sym c.before.all_plain.ensures ∙ not-true c.if2.true))
+    (λ c. let s = c.before.before.before in nine_signed s.args.code s.args.list (long s) (sym c.all_plain.ensures ∙ c.if-not-all_plain.true))
     (λ c κs. search rules)
     (λ c κs. search rules)
     (λ c κs. search rules)

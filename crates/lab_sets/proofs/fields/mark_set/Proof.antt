@@ -1,4 +1,6 @@
 -- `lab_sets::fields::mark_set` meets its contract. Assumes nothing.
+use mathlib.Core.Path.{ap}
+use mathlib.Core.Bool.{not}
 use native.Mathlib.Omega.{arith}
 use borrow.Author.Rules.{rules}
 use Rattle.lab_sets.specs.Setting.{mark_set}
@@ -11,8 +13,8 @@ unfolding mark_set
 mark_set_spec =
     tie.close
     (tie.spec
-    (λ c. rw (no_id c.args.id c.if-not-id.true))
-    (λ c. (is_id_lem c.args.id c.if-not-id.false).0)
+    (λ c. rw (no_id c.args.id (ap not c.if-not-id.true)))
+    (λ c. (is_id_lem c.args.id (ap not c.if-not-id.false)).0)
     (λ c. search rules)
-    (λ c. omega (arith, is_id_lem c.args.id c.if-not-id.false))
-    (λ c. rw (an_id c.args.id c.if-not-id.false)))
+    (λ c. omega (arith, is_id_lem c.args.id (ap not c.if-not-id.false)))
+    (λ c. rw (an_id c.args.id (ap not c.if-not-id.false))))

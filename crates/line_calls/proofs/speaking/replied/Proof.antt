@@ -14,16 +14,20 @@ front-short n l e = omega (arith, ap length e, length-take n l)
 front-requires : tie.Need-front-requires
 front-requires c κs = tt
 
-put-packet-requires : tie.Need-put-packet-requires
-put-packet-requires c κs = (omega (arith, front-short 260 c.before.before.before.before.before.args.room.now c.front.ensures.0), search rules)
+put-packet-requires : tie.Need-put_packet-requires
+put-packet-requires c κs = (omega (arith, front-short 260 c.args.room.now c.front.ensures.0), search rules)
 
-same_length : tie.Need-same-length
+same_length : tie.Need-shape_of-out
 same_length c = search rules
 
 returns : tie.Need-returns
 returns c =
-    let e = c.before.before.put-packet.ensures in
-    (refl, rw (← c.before.before.before.front.ensures.0) (record { characters = e.1.0; place = e.0; short = e.1.1 }))
+    let e = c.put_packet.ensures in
+    (refl, rw (← c.front.ensures.0) (record { characters = e.1.0; place = e.0; short = e.1.1 }))
 
 pub replied_spec : {M : Type 1} → statement M
-replied_spec = tie.close (tie.spec front-requires put-packet-requires same_length returns)
+replied_spec = tie.close (tie.spec
+    front-requires
+    put-packet-requires
+    same_length
+    returns)

@@ -1,0 +1,22 @@
+-- A code that is no byte is refused.
+use native.Mathlib.Omega.{arith}
+use Prim.Native.Nat.{◌^◌}
+use mathlib.Core.Path.{◌≡◌}
+use mathlib.Core.Bool.{true, false}
+use borrow.Author.Tests.{le-ltb, lt-ltb}
+use lib.Dec.{ltb}
+use Rattle.rows.specs.Rows.{ran}
+use Rattle.tolmezha.specs.Numbers.{sent_answered}
+use Rattle.tolmezha.proofs.tolmezha_sent.Goals as goal
+
+pub returns-then-code-gt255 : goal.returns-then-code-gt255
+unfolding sent_answered ran
+returns-then-code-gt255 c =
+    let large : ltb c.args.code (2 ^ 8) ≡ false = le-ltb c.args.code (2 ^ 8) (omega (arith, c.if-code-gt255.true)) in
+    rw large
+
+pub returns : goal.returns
+unfolding sent_answered ran
+returns c =
+    let small : ltb c.args.code (2 ^ 8) ≡ true = lt-ltb c.args.code (2 ^ 8) (omega (arith, c.if-code-gt255.false)) in
+    rw (small, c.put_state.ensures, c.sent.ensures)
