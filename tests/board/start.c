@@ -60,6 +60,26 @@ u64 write(u32 file, const void *at, u64 length)
     return moved(0x05, out, at, (u32)length);
 }
 
+/* What the kit's main asks of the C library of x86-64 before it runs the program: that a closed pipe ends nothing, and
+ * whether the processor has all that the program is compiled for; where it has not, it writes so. Here it has all. */
+u64 __sysv_signal(u32 number, u64 what)
+{
+    (void)number, (void)what;
+    return 0;
+}
+
+const void *__x86_get_cpuid_feature_leaf(u32 leaf)
+{
+    static const u32 all[] = {~0u, ~0u, ~0u, ~0u, ~0u, ~0u, ~0u, ~0u};
+    (void)leaf;
+    return all;
+}
+
+u64 __write(u32 file, const void *at, u64 length)
+{
+    return write(file, at, length);
+}
+
 /* The same for the C program of the library (tests/library/lines.h). */
 int vectors_read(void *into, u32 length)
 {

@@ -212,4 +212,4 @@ def for_m4(ir):
     ir, three = re.subn(r' "(?:probe-stack|stack-probe-size|target-cpu)"="[^"]*"', "", ir)
     if (one, two) != (1, 1) or not three:
         fail("the module's head has another form than was known")
-    return ir
+    return ir.replace(" = ptrtoaddr ptr ", " = ptrtoint ptr ")  # which alone may widen an address

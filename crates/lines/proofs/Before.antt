@@ -13,9 +13,9 @@ use Rattle.rows.proofs.Bool.{split}
 use Rattle.items.proofs.Lists.{next}
 
 -- at a newline there are none
-pub at-newline : (t : List ℕ) (i : ℕ) → i < length t → get_or t i 0 ≡ 10 → before (drop i t) ≡ 0
+pub at_newline : (t : List ℕ) (i : ℕ) → i < length t → get_or t i 0 ≡ 10 → before (drop i t) ≡ 0
 unfolding before
-at-newline t i h e = rw (next t i (i + 1) h refl, e)
+at_newline t i h e = rw (next t i (i + 1) h refl, e)
 
 -- any other character is one of them
 pub past : (t : List ℕ) (i : ℕ) → i < length t → (get_or t i 0 ≡ 10 → ⊥) → before (drop i t) ≡ suc (before (drop (i + 1) t))

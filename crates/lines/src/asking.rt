@@ -127,6 +127,7 @@ fn samples_of(check: u8, items: Items) -> Line
 }
 
 // A letter with nothing behind it.
+#[tactic(auto, unfolding(crate::specs::Asked::bare_asked, crate::specs::Asked::say_line))]
 fn bare(letter: u8) -> Line
     ensures { result ≡ say_line (bare_asked letter) }
 {

@@ -37,6 +37,7 @@ fn past_plain(text: &[u8], from: usize) -> usize
 }
 
 // Where the line that starts at a place ends: at its newline, or at the end of the text.
+#[tactic(auto, using(crate::proofs::Before::at_newline, crate::proofs::Before::past, crate::proofs::Before::none_left))]
 pub fn line_end(text: &[u8], from: usize) -> usize
     requires { from ≤ length text.now }
     ensures value { result ≡ from + before (drop from text.now) }
@@ -107,6 +108,7 @@ pub fn next_line(piece: &[u8], line: &mut [u8], cursor: Cursor) -> Cut
 }
 
 // A line that was held.
+#[tactic(auto, unfolding(crate::specs::Cut::last_of))]
 pub fn last(held: usize) -> Found
     ensures value { result ≡ last_of held }
     ensures by_index { (n : ℕ) → FoundIn result n }

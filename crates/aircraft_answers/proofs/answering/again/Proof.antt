@@ -8,20 +8,20 @@ use Rattle.aircraft_answers.proofs.Lines.{few_taken, bytes-written, stayed, over
 use Rattle.aircraft_answers.proofs.answering.again.Statement.{statement}
 use Rattle.aircraft_answers.proofs.answering.again.Tie as tie
 
-returns : tie.Need-returns
+returns : tie.Need-returns-in-Over
 returns c =
-    let a = c.before.before.before.before.before.before.before.before.before.before.args in
-    let e = c.before.before.before.append.ensures in
-    rw (over_again (way_in a.way) c.before.before.before.before.before.before.enum_told.given.1)
-    (stayed _ a.way _ _ _ _ _ c.stay.ensures c.before.before.before.before.before.before.before.before.before.before.requires.0 (appended (78 ∷ 32 ∷ 45 ∷ 10 ∷ []) 800 _ _ _ _ e.0 e.1 (omega arith)))
+    let a = c.args in
+    let e = c.append.ensures in
+    rw (over_again (way_in a.way) c.in-Over.is)
+    (stayed _ a.way _ _ _ _ _ c.stay.ensures c.requires.0 (appended (78 ∷ 32 ∷ 45 ∷ 10 ∷ []) 800 _ _ _ _ e.0 e.1 (omega arith)))
 
-returns-2 : tie.Need-returns-2
+returns-2 : tie.Need-returns-in-Awaiting
 returns-2 c =
-    let a = c.before.before.before.before.before.before.before.before.before.before.before.args in
-    let front = c.before.before.before.before.front.ensures.0 in
-    let e = c.before.before.before.bytes-line.ensures in
-    rw (sent-again (way_in a.way) _ _ c.before.before.before.before.before.before.before.enum-told2.given.1)
-    (stayed _ a.way _ _ _ _ _ c.stay2.ensures c.before.before.before.before.before.before.before.before.before.before.before.requires.0 (bytes-written 80 _ _ _ _ _ _ front (few_taken a.way.count _ _ c.before.before.before.before.before.before.before.before.before.before.before.requires.0 front) e.0 e.1.0 e.1.1))
+    let a = c.args in
+    let front = c.front.ensures.0 in
+    let e = c.bytes_line.ensures in
+    rw (sent-again (way_in a.way) _ _ c.in-Awaiting.is)
+    (stayed _ a.way _ _ _ _ _ c.stay-in-Awaiting.ensures c.requires.0 (bytes-written 80 _ _ _ _ _ _ front (few_taken a.way.count _ _ c.requires.0 front) e.0 e.1.0 e.1.1))
 
 pub again_spec : {M : Type 1} → statement M
 again_spec =
@@ -34,7 +34,7 @@ again_spec =
     (λ c. search rules)
     (λ c. search rules)
     (λ c κs. search rules)
-    (λ c κs. omega (arith, few_taken c.before.before.before.before.before.before.before.args.way.count _ _ c.before.before.before.before.before.before.before.requires.0 c.front.ensures.0, c.before.before.before.before.before.before.before.requires.1))
+    (λ c κs. omega (arith, few_taken c.args.way.count _ _ c.requires.0 c.front.ensures.0, c.requires.1))
     (λ c κs. search rules)
     (λ c. search rules)
     returns

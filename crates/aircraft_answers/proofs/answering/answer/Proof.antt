@@ -10,45 +10,45 @@ use Rattle.aircraft_answers.proofs.Asking.{line_spoken, as_asked}
 use Rattle.aircraft_answers.proofs.answering.answer.Statement.{statement}
 use Rattle.aircraft_answers.proofs.answering.answer.Tie as tie
 
-returns : tie.Need-returns
+returns : tie.Need-returns-in-Send
 unfolding line_spoken
-returns c = as_asked _ _ _ _ _ _ _ (rw c.before.before.before.before.before.line.given.1 c.before.before.send.ensures)
+returns c = as_asked _ _ _ _ _ _ _ (rw c.in-Send.is c.send.ensures)
 
-returns-2 : tie.Need-returns-2
+returns-2 : tie.Need-returns-in-Outside
 unfolding line_spoken
 returns-2 c =
-    let a = c.before.before.before.before.before.before.before.before.before.args in
-    let e = c.before.before.before.refused-line.ensures in
+    let a = c.args in
+    let e = c.refused_line.ensures in
     as_asked _ _ _ _ _ _ _
-    (rw c.before.before.before.before.before.enum_told.given.1 (stayed _ a.way _ _ _ _ _ c.stay.ensures c.before.before.before.before.before.before.before.before.before.requires.0 (refused_written 81 20 _ _ _ _ e.0 e.1.0 e.1.1)))
+    (rw c.in-Outside.is (stayed _ a.way _ _ _ _ _ c.stay.ensures c.requires.0 (refused_written 81 20 _ _ _ _ e.0 e.1.0 e.1.1)))
 
-returns-3 : tie.Need-returns-3
+returns-3 : tie.Need-returns-in-Take
 unfolding line_spoken
-returns-3 c = as_asked _ _ _ _ _ _ _ (rw c.before.before.before.before.before.line2.given.1 c.before.before.take.ensures)
+returns-3 c = as_asked _ _ _ _ _ _ _ (rw c.in-Take.is c.take.ensures)
 
-returns-4 : tie.Need-returns-4
+returns-4 : tie.Need-returns-in-Hear
 unfolding line_spoken spoken_of
 returns-4 c =
     as_asked _ _ _ _ _ _ _
-    (rw (c.before.before.before.before.before.before.before.line3.given.1, ← c.before.before.before.before.before.front.ensures.0, ← c.before.before.before.before.reply.ensures) c.before.before.tell.ensures)
+    (rw (c.in-Hear.is, ← c.front-heard.ensures.0, ← c.reply.ensures) c.tell.ensures)
 
-returns-5 : tie.Need-returns-5
+returns-5 : tie.Need-returns-in-Wait
 unfolding line_spoken spoken_of
 returns-5 c =
-    let bs = c.before.before.before.before.before.before.before.before.before.args.bytes.now in
-    as_asked _ _ _ _ _ _ _ (rw (c.before.before.before.before.before.enum-told2.given.1, ← c.before.before.before.before.silence.ensures bs) c.before.before.tell2.ensures)
+    let bs = c.args.bytes.now in
+    as_asked _ _ _ _ _ _ _ (rw (c.in-Wait.is, ← c.silence.ensures bs) c.tell-in-Wait.ensures)
 
-returns-6 : tie.Need-returns-6
+returns-6 : tie.Need-returns-in-Again
 unfolding line_spoken
-returns-6 c = as_asked _ _ _ _ _ _ _ (rw c.before.before.before.before.enum-told3.given.1 c.before.before.again.ensures)
+returns-6 c = as_asked _ _ _ _ _ _ _ (rw c.in-Again.is c.again.ensures)
 
-returns-7 : tie.Need-returns-7
+returns-7 : tie.Need-returns-in-Other
 unfolding line_spoken spoken_of bare_line
 returns-7 c =
-    let a = c.before.before.before.before.before.before.before.before.before.args in
-    let e = c.before.before.before.bare-line.ensures in
+    let a = c.args in
+    let e = c.bare_line.ensures in
     as_asked _ _ _ _ _ _ _
-    (rw c.before.before.before.before.before.enum-told4.given.1 (stayed _ a.way _ _ _ _ _ c.stay2.ensures c.before.before.before.before.before.before.before.before.before.requires.0 (appended (63 ∷ 10 ∷ []) 800 _ _ _ _ e.0 e.1 (omega arith))))
+    (rw c.in-Other.is (stayed _ a.way _ _ _ _ _ c.stay-in-Other.ensures c.requires.0 (appended (63 ∷ 10 ∷ []) 800 _ _ _ _ e.0 e.1 (omega arith))))
 
 pub answer_spec : {M : Type 1} → statement M
 answer_spec =

@@ -10,23 +10,23 @@ use Rattle.aircraft_answers.proofs.Lines.{bytes-written, refused_written, stayed
 use Rattle.aircraft_answers.proofs.answering.send.Statement.{statement}
 use Rattle.aircraft_answers.proofs.answering.send.Tie as tie
 
-returns : tie.Need-returns
+returns : tie.Need-returns-in-Bytes
 unfolding command_built
 returns c =
-    let a = c.before.before.before.before.before.before.before.before.before.before.before.before.before.before.args in
-    let b = c.before.before.before.before.before.before.before.before.before.before.before.build in
-    let e = c.before.before.before.bytes-line.ensures in
-    newly_sent a.command _ _ _ _ _ _ (put (command_fits a.command) (command_bytes a.command) _ refl b.result _ b.ensures _ (few_bytes a.command) c.before.before.before.before.before.before.before.before.n.given.1)
-    c.sent.ensures (bytes-written 80 _ _ _ _ _ _ c.before.before.before.before.front.ensures.0 (omega (arith, c.before.before.before.before.front.ensures.1)) e.0 e.1.0 e.1.1)
+    let a = c.args in
+    let b = c.build in
+    let e = c.bytes_line-to.ensures in
+    newly_sent a.command _ _ _ _ _ _ (put (command_fits a.command) (command_bytes a.command) _ refl b.result _ b.ensures _ (few_bytes a.command) c.in-Bytes.is)
+    c.sent-sending.ensures (bytes-written 80 _ _ _ _ _ _ c.front.ensures.0 (omega (arith, c.front.ensures.1)) e.0 e.1.0 e.1.1)
 
-returns-2 : tie.Need-returns-2
+returns-2 : tie.Need-returns-in-Refused
 unfolding command_built
 returns-2 c =
-    let a = c.before.before.before.before.before.before.before.before.before.before.before.args in
-    let b = c.before.before.before.before.before.before.before.before.build in
-    let e = c.before.before.before.refused-line.ensures in
-    rw (not_put (command_fits a.command) (command_bytes a.command) _ refl b.result _ b.ensures _ c.before.before.before.before.before.enum_told.given.1)
-    (stayed _ a.way _ _ _ _ _ c.stay.ensures c.before.before.before.before.before.before.before.before.before.before.before.requires.0 (refused_written 81 20 _ _ _ _ e.0 e.1.0 e.1.1))
+    let a = c.args in
+    let b = c.build in
+    let e = c.refused_line.ensures in
+    rw (not_put (command_fits a.command) (command_bytes a.command) _ refl b.result _ b.ensures _ c.in-Refused.is)
+    (stayed _ a.way _ _ _ _ _ c.stay.ensures c.requires.0 (refused_written 81 20 _ _ _ _ e.0 e.1.0 e.1.1))
 
 pub send_spec : {M : Type 1} → statement M
 send_spec =

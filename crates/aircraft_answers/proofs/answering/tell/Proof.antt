@@ -11,10 +11,13 @@ returns : tie.Need-returns
 unfolding heard_said
 returns c =
     record {
-      text = renamed _ _ 781 800 _ _ _ _ refl (omega arith) c.before.before.before.put-outcome.ensures;
+      text = renamed _ _ 781 800 _ _ _ _ refl (omega arith) c.put_outcome-to.ensures;
       way = refl;
       count = search rules;
     }
 
 pub tell_spec : {M : Type 1} → statement M
-tell_spec = tie.close (tie.spec (λ c κs. search rules) (λ c. search rules) returns)
+tell_spec = tie.close (tie.spec
+    (λ c κs. search rules)
+    (λ c. search rules)
+    returns)

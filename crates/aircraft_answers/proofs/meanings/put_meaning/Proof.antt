@@ -17,41 +17,41 @@ use Rattle.aircraft_answers.proofs.Texts.{few_ids, one_block, wrong_text, done_t
 use Rattle.aircraft_answers.proofs.meanings.put_meaning.Statement.{statement}
 use Rattle.aircraft_answers.proofs.meanings.put_meaning.Tie as tie
 
-returns : tie.Need-returns
+returns : tie.Need-returns-in-Unusable
 unfolding refusal_number meaning_said
 returns c =
-    let e = c.before.before.append.ensures in
-    rw (c.before.before.before.before.before.enum_told.given.1, wrong_text) (appended (32 ∷ 33 ∷ 50 ∷ 51 ∷ []) 773 _ _ _ _ e.0 e.1 (omega arith))
+    let e = c.append.ensures in
+    rw (c.in-Unusable.is, wrong_text) (appended (32 ∷ 33 ∷ 50 ∷ 51 ∷ []) 773 _ _ _ _ e.0 e.1 (omega arith))
 
-returns-2 : tie.Need-returns-2
+returns-2 : tie.Need-returns-in-Done
 unfolding meaning_said
 returns-2 c =
-    let e = c.before.before.append2.ensures in
-    rw (c.before.before.before.before.before.enum-told2.given.1, done_text) (appended (32 ∷ 100 ∷ 111 ∷ 110 ∷ 101 ∷ []) 773 _ _ _ _ e.0 e.1 (omega arith))
+    let e = c.append-in-Done.ensures in
+    rw (c.in-Done.is, done_text) (appended (32 ∷ 100 ∷ 111 ∷ 110 ∷ 101 ∷ []) 773 _ _ _ _ e.0 e.1 (omega arith))
 
-returns-3 : tie.Need-returns-3
+returns-3 : tie.Need-returns-in-Error
 unfolding meaning_said
-returns-3 c = rw c.before.before.before.before.before.before.before.meaning.given.1 (renamed _ _ 773 773 _ _ _ _ (error_text _) (omega arith) c.before.before.put-listed.ensures)
+returns-3 c = rw c.in-Error.is (renamed _ _ 773 773 _ _ _ _ (error_text _) (omega arith) c.put_listed.ensures)
 
-returns-4 : tie.Need-returns-4
+returns-4 : tie.Need-returns-in-State
 unfolding meaning_said
 returns-4 c =
-    let s = c.before.before.before.before.before.before.meaning2.given.0.0 in
-    rw c.before.before.before.before.before.before.meaning2.given.1
-    (renamed _ _ 280 773 _ _ _ _ (ap (λ (ids : List ℕ). meant_text (gave (status (shown_report s ids) s.request))) c.before.before.before.ids.ensures) (omega arith) c.before.before.put-status.ensures)
+    let s = c.in-State.shown in
+    rw c.in-State.is
+    (renamed _ _ 280 773 _ _ _ _ (ap (λ (ids : List ℕ). meant_text (gave (status (shown_report s ids) s.request))) c.ids.ensures) (omega arith) c.put_status.ensures)
 
-returns-5 : tie.Need-returns-5
+returns-5 : tie.Need-returns-in-Value
 unfolding meaning_said
 returns-5 c =
-    let v = c.before.before.before.before.before.meaning3.given.0.1.0 in
+    let v = c.in-Value.v in
     let back : to_z w32 (of_z w32 v) ≡ v = search rules in
-    rw c.before.before.before.before.before.meaning3.given.1 (renamed _ _ 49 773 _ _ _ _ refl (omega arith) (rw back at c.before.before.put-value.ensures))
+    rw c.in-Value.is (renamed _ _ 49 773 _ _ _ _ refl (omega arith) (rw back at c.put_value.ensures))
 
-returns-6 : tie.Need-returns-6
+returns-6 : tie.Need-returns-in-Block
 unfolding meaning_said
 returns-6 c =
-    rw c.before.before.before.before.before.before.enum-told3.given.1
-    (renamed _ _ 773 773 _ _ _ _ (ap (λ (b : List ℕ). characters " data" ++ spell b) c.before.before.before.block.ensures ∙ block_text _) (omega arith) c.before.before.put-listed2.ensures)
+    rw c.in-Block.is
+    (renamed _ _ 773 773 _ _ _ _ (ap (λ (b : List ℕ). characters " data" ++ spell b) c.block.ensures ∙ block_text _) (omega arith) c.put_listed-in-Block.ensures)
 
 pub put_meaning_spec : {M : Type 1} → statement M
 put_meaning_spec =
@@ -69,13 +69,13 @@ put_meaning_spec =
     (λ c κs. search rules)
     (λ c. search rules)
     (λ c κs. search rules)
-    (λ c κs. (omega (arith, ap length c.ids.ensures, few_ids c.before.before.before.before.before.before.before.args.answer.now), search rules))
+    (λ c κs. (omega (arith, ap length c.ids.ensures, few_ids c.args.answer.now), search rules))
     (λ c. search rules)
     (λ c κs. search rules)
     (λ c. search rules)
     (λ c. search rules)
     (λ c κs. search rules)
-    (λ c κs. (omega (arith, ap length c.block.ensures, one_block c.before.before.before.before.before.before.before.args.answer.now), search rules))
+    (λ c κs. (omega (arith, ap length c.block.ensures, one_block c.args.answer.now), search rules))
     (λ c. same_size _ 773 _ _ _ _ (returns c))
     returns
     (λ c. same_size _ 773 _ _ _ _ (returns-2 c))

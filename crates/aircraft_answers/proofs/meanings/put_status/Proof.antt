@@ -14,13 +14,13 @@ use Rattle.aircraft_answers.proofs.meanings.put_status.Tie as tie
 
 returns : tie.Need-returns
 returns c =
-    let a = c.before.before.before.before.before.before.before.before.before.before.before.before.before.before.before.before.before.before.before.before.before.args in
+    let a = c.args in
     let s = a.shown in
     let ids = a.ids.now in
-    let first = c.before.before.before.before.before.before.before.before.before.before.before.before.before.before.before.before.append.ensures in
-    renamed _ _ (7 + (105 + 21 * length ids)) 280 _ _ _ _ (status_text (shown_report s ids) s.request) (omega (arith, c.before.before.before.before.before.before.before.before.before.before.before.before.before.before.before.before.before.before.before.before.before.requires.0))
+    let first = c.append-first.ensures in
+    renamed _ _ (7 + (105 + 21 * length ids)) 280 _ _ _ _ (status_text (shown_report s ids) s.request) (omega (arith, c.requires.0))
     (both (characters " status") _ 7 (105 + 21 * length ids) _ _ _ _ _ _ (appended (characters " status") 7 _ _ _ _ first.0 first.1 (omega arith))
-    (both (spelled (naturals (s.mode ∷ s.flags ∷ s.priority ∷ s.ordinary ∷ s.request ∷ []))) (spelled (naturals ids)) 105 (21 * length ids) _ _ _ _ _ _ c.before.before.before.before.before.before.put-run.ensures c.before.before.put-ids.ensures))
+    (both (spelled (naturals (s.mode ∷ s.flags ∷ s.priority ∷ s.ordinary ∷ s.request ∷ []))) (spelled (naturals ids)) 105 (21 * length ids) _ _ _ _ _ _ c.put_run-behind.ensures c.put_ids.ensures))
 
 pub put_status_spec : {M : Type 1} → statement M
 put_status_spec =

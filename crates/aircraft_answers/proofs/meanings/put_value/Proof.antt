@@ -15,11 +15,11 @@ use Rattle.aircraft_answers.proofs.meanings.put_value.Tie as tie
 
 returns : tie.Need-returns
 returns c =
-    let a = c.before.before.before.before.before.before.before.before.before.before.before.before.before.before.before.args in
+    let a = c.args in
     let back : to_z w32 (of_z w32 a.v) ≡ a.v = search rules in
-    let first = c.before.before.before.before.before.before.before.before.before.before.before.append in
-    let id = c.before.before.before.before.before.before.put-run in
-    renamed _ _ 49 49 _ _ _ _ (value_text a.id a.v) (omega arith) (both (characters " value") _ 6 43 _ _ _ _ _ _ (appended (characters " value") 6 _ _ _ _ first.ensures.0 first.ensures.1 (omega arith)) (both (spelled (pos a.id ∷ [])) (spelled (a.v ∷ [])) 21 22 _ _ _ _ _ _ id.ensures (rw back at c.before.before.put_one.ensures)))
+    let first = c.append-first in
+    let id = c.put_run-behind in
+    renamed _ _ 49 49 _ _ _ _ (value_text a.id a.v) (omega arith) (both (characters " value") _ 6 43 _ _ _ _ _ _ (appended (characters " value") 6 _ _ _ _ first.ensures.0 first.ensures.1 (omega arith)) (both (spelled (pos a.id ∷ [])) (spelled (a.v ∷ [])) 21 22 _ _ _ _ _ _ id.ensures (rw back at c.put_one.ensures)))
 
 pub put_value_spec : {M : Type 1} → statement M
 put_value_spec =

@@ -11,12 +11,12 @@ use Rattle.aircraft_answers.proofs.outcomes.put_outcome.Tie as tie
 returns : tie.Need-returns
 unfolding outcome_text heard_said
 returns c =
-    let a = c.before.before.before.before.before.before.before.before.before.before.before.before.before.before.before.before.before.before.before.before.args in
-    let first = c.before.before.before.before.before.before.before.before.before.before.before.before.before.before.before.append.ensures in
-    let last = c.before.before.append2.ensures in
+    let a = c.args in
+    let first = c.append-first.ensures in
+    let last = c.append.ensures in
     both (82 ∷ []) _ 1 780 _ _ _ _ _ _ (appended (82 ∷ []) 1 _ _ _ _ first.0 first.1 (omega arith))
-    (both (read_text (reply_said a.heard.reply a.answer.now)) _ 773 7 _ _ _ _ _ _ c.before.before.before.before.before.before.before.before.before.before.before.put-reply.ensures
-    (both (step_text a.heard.step) (10 ∷ []) 6 1 _ _ _ _ _ _ c.before.before.before.before.before.before.before.put_step.ensures
+    (both (read_text (reply_said a.heard.reply a.answer.now)) _ 773 7 _ _ _ _ _ _ c.put_reply-read.ensures
+    (both (step_text a.heard.step) (10 ∷ []) 6 1 _ _ _ _ _ _ c.put_step-last.ensures
     (appended (10 ∷ []) 1 _ _ _ _ last.0 last.1 (omega arith))))
 
 pub put_outcome_spec : {M : Type 1} → statement M

@@ -5,8 +5,8 @@ use Rattle.aircraft_answers.proofs.Texts.{unwritten}
 use Rattle.aircraft_answers.proofs.outcomes.put_reply.Statement.{statement}
 use Rattle.aircraft_answers.proofs.outcomes.put_reply.Tie as tie
 
-returns-2 : tie.Need-returns-2
-returns-2 c = rw c.before.before.before.before.before.reply.given.1 c.before.before.put-meaning.ensures
+returns-2 : tie.Need-returns-in-Answer
+returns-2 c = rw c.in-Answer.is c.put_meaning.ensures
 
 pub put_reply_spec : {M : Type 1} → statement M
 put_reply_spec =
@@ -15,6 +15,6 @@ put_reply_spec =
     (λ c. search rules)
     (λ c. search rules)
     (λ c κs. search rules)
-    (λ c. rw c.enum_told.given.1 (unwritten 773 _ _))
+    (λ c. rw c.in-Unread.is (unwritten 773 _ _))
     (λ c. same_size _ 773 _ _ _ _ (returns-2 c))
     returns-2)

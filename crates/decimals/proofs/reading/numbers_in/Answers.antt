@@ -1,11 +1,10 @@
 -- `decimals::reading::numbers_in` meets its contract: the numbers that are left go behind those that are stored. Assumes nothing.
-use Rattle.std.proofs.Common.{rules, arith, ◌≡◌, ◌∙◌, sym, ap, ◌+◌, ◌≤◌, List, ◌∷◌, length, drop}
+use Rattle.std.proofs.Common.{rules, arith, ◌≡◌, ◌∙◌, sym, ap, ◌+◌, ◌≤◌, ◌∷◌, length, drop}
 use lib.ListN.{length-set}
 use Rattle.decimals.specs.declared.Number.{Number}
 use Rattle.decimals.specs.Reading.{numbers_in}
 use Rattle.decimals.proofs.Pieces.{found_at, found_within, numbers_on, numbers_end, stored, none_left, one_more, no_room}
 use Rattle.decimals.proofs.reading.numbers_in.Goals as goal
-use Rattle.decimals.proofs.reading.numbers_in.Goals.{then-count-lt9, else-count-lt9}
 
 pub slice_bounds-number-end : goal.slice_bounds-number-end
 slice_bounds-number-end c =
@@ -28,20 +27,9 @@ loop-from-preserved c =
     let step : numbers_in (drop l.from t) ≡ v ∷ rest =
     numbers_on t l.from end (omega arith) end_is ∙ ap (λ (x : Number). x ∷ rest) (sym c.number-next.ensures) in
     let whole = ap (stored l.list l.count) (sym step) ∙ l.invariant.3 in
-    elim c.if-count-lt9.branch [
-      | then-count-lt9 w ↦ (
-        within,
-        omega arith,
-        ap length w.list-is ∙ length-set l.list l.count v ∙ l.invariant.2,
-        ap (λ (x : List Number). stored x (l.count + 1) rest) w.list-is ∙ one_more l.list l.count v rest ∙ whole,
-      )
-      | else-count-lt9 w ↦ (
-        within,
-        omega arith,
-        ap length w.list-is ∙ l.invariant.2,
-        ap (λ (x : List Number). stored x (l.count + 1) rest) w.list-is ∙ no_room l.list l.count v rest (omega (arith, l.invariant.2)) ∙ whole,
-      )
-    ]
+    let room = one_more l.list l.count v rest in
+    let full = no_room l.list l.count v rest in
+    (within, omega arith, grind (arith, length-set l.list l.count v, l.invariant.2), grind (arith, room, full, whole, l.invariant.2))
 
 pub returns : goal.returns
 returns c =

@@ -9,12 +9,12 @@ unfolding names state_names
 field_at_spec =
     tie.close
     (tie.spec
-    (λ c. rw c.match.keys1)
-    (λ c. rw c.match.keys2)
-    (λ c. rw c.match.keys3)
-    (λ c. rw c.match.keys4)
-    (λ c. rw c.match.keys5)
-    (λ c. rw c.match.keys6)
-    (λ c. rw c.match.keys7)
-    (λ c. rw c.match.keys8)
-    (λ c. rw (last_of 8 c.before.args.i c.match.rest c.before.requires)))
+    (λ c. rw c.in-0.is)
+    (λ c. rw c.in-1.is)
+    (λ c. rw c.in-2.is)
+    (λ c. rw c.in-3.is)
+    (λ c. rw c.in-4.is)
+    (λ c. rw c.in-5.is)
+    (λ c. rw c.in-6.is)
+    (λ c. rw c.in-7.is)
+    (λ c. rw (last_of 8 c.args.i c.in_default.rest c.requires)))

@@ -9,9 +9,9 @@ unfolding names state_names written_names missing_names port_names value_names o
 thing_at_spec =
     tie.close
     (tie.spec
-    (λ c. rw c.match.keys1)
-    (λ c. rw c.match.keys2)
-    (λ c. rw c.match.keys3)
-    (λ c. rw c.match.keys4)
-    (λ c. rw c.match.keys5)
-    (λ c. rw (last_of 5 c.before.args.i c.match.rest c.before.requires)))
+    (λ c. rw c.in-0.is)
+    (λ c. rw c.in-1.is)
+    (λ c. rw c.in-2.is)
+    (λ c. rw c.in-3.is)
+    (λ c. rw c.in-4.is)
+    (λ c. rw (last_of 5 c.args.i c.in_default.rest c.requires)))

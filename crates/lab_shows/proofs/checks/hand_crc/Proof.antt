@@ -18,16 +18,16 @@ hand_crc_spec =
     (λ c. search rules)
     (λ c κs. search rules)
     (λ c.
-    let o = c.before.before.before.before.before.args.output in
+    let o = c.args.output in
     let all : 0 ≡ 8 - o.hand = omega arith in
-    c.crc-of.ensures ∙ ap (λ (k : ℕ). crc_of (drop k o.bytes)) all)
+    c.crc_of.ensures ∙ ap (λ (k : ℕ). crc_of (drop k o.bytes)) all)
     (λ c. search rules)
     (λ c. search rules)
     (λ c. search rules)
     (λ c. search rules)
-    (λ c. let long : length c.before.before.before.before.before.args.output.bytes ≡ 8 = search rules in omega (arith, long))
+    (λ c. let long : length c.args.output.bytes ≡ 8 = search rules in omega (arith, long))
     (λ c κs. search rules)
     (λ c.
-    let o = c.before.before.before.before.before.before.before.args.output in
+    let o = c.args.output in
     let long : length o.bytes ≡ 8 = search rules in
-    c.crc-of2.ensures ∙ ap crc_of (take_all (8 - (8 - o.hand)) (drop (8 - o.hand) o.bytes) (omega (arith, length-drop (8 - o.hand) o.bytes)))))
+    c.crc_of-2.ensures ∙ ap crc_of (take_all (8 - (8 - o.hand)) (drop (8 - o.hand) o.bytes) (omega (arith, length-drop (8 - o.hand) o.bytes)))))

@@ -16,5 +16,5 @@ load_crc_spec =
     (tie.spec
     (λ c κs. search rules)
     (λ c κs. search rules)
-    (λ c κs. let n : length c.before.before.before.args.load.now ≡ 64 = search rules in rw (c.front-words.ensures, length-take) (omega arith))
-    (λ c. c.words-crc.ensures ∙ ap (λ (l : List ℕ). crc_of (word_bytes l)) (c.before.front-words.ensures ∙ ap (λ (k : ℕ). take k c.before.before.before.before.args.load.now) c.before.before.along.ensures)))
+    (λ c κs. let n : length c.args.load.now ≡ 64 = search rules in rw (c.front_words.ensures, length-take) (omega arith))
+    (λ c. c.words_crc.ensures ∙ ap (λ (l : List ℕ). crc_of (word_bytes l)) (c.front_words.ensures ∙ ap (λ (k : ℕ). take k c.args.load.now) c.along.ensures)))

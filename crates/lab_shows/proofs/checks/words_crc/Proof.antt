@@ -13,21 +13,21 @@ use Rattle.lab_shows.proofs.Firsts.{word_in}
 use Rattle.lab_shows.proofs.checks.words_crc.Statement.{statement}
 use Rattle.lab_shows.proofs.checks.words_crc.Tie as tie
 
-abbrev invariant-loop : tie.invariant-loop
+abbrev invariant-loop : tie.invariant-loop-i
 invariant-loop words bytes₀ i₀ bytes i = (i ≤ length words) × (length bytes ≡ 256) × (take (2 * i) bytes ≡ word_bytes (take i words))
 
-abbrev decreases-loop : tie.decreases-loop
+abbrev decreases-loop : tie.decreases-loop-i
 decreases-loop words bytes₀ i₀ bytes i = length words - i
 
-loop-holds : tie.Need-loop-init invariant-loop decreases-loop
+loop-holds : tie.Need-loop-i-init invariant-loop decreases-loop
 unfolding word_bytes
 loop-holds c = (search rules, refl, refl)
 
-loop-again : tie.Need-loop-preserved invariant-loop decreases-loop
+loop-again : tie.Need-loop-i-preserved invariant-loop decreases-loop
 loop-again c =
-    let l = c.before.before.before.before.before.loop in
-    let ws = c.before.before.before.before.before.before.before.args.words.now in
-    let e = c.before.put_two in (
+    let l = c.loop-i in
+    let ws = c.args.words.now in
+    let e = c.put_two in (
       search rules,
       ap length e.ensures ∙ length-sets l.bytes (2 * l.i) (high_first 2 (get_or ws l.i 0)) ∙ l.invariant.1,
       ap (take (2 * (l.i + 1))) e.ensures ∙ word_in l.bytes ws l.i (omega arith) (omega (arith, l.invariant.1)) l.invariant.2,
@@ -35,9 +35,9 @@ loop-again c =
 
 returns : tie.Need-returns invariant-loop decreases-loop
 returns c =
-    let l = c.before.before.before.loop in
-    let ws = c.before.before.before.before.before.args.words.now in
-    c.crc-of.ensures ∙ ap crc_of (l.invariant.2 ∙ ap word_bytes (take_all l.i ws (omega arith)))
+    let l = c.loop-i in
+    let ws = c.args.words.now in
+    c.crc_of.ensures ∙ ap crc_of (l.invariant.2 ∙ ap word_bytes (take_all l.i ws (omega arith)))
 
 pub words_crc_spec : {M : Type 1} → statement M
 words_crc_spec =
@@ -50,12 +50,12 @@ words_crc_spec =
     (λ c. search rules)
     (λ c. search rules)
     (λ c. search rules)
-    (λ c κs. let l = c.before.before.before.loop in omega (arith, l.invariant.1))
+    (λ c κs. let l = c.loop-i in omega (arith, l.invariant.1))
     (λ c. search rules)
     (λ c. search rules)
     loop-again
     (λ c. search rules)
     (λ c. search rules)
-    (λ c. let l = c.before.before.loop in sym (length-take-le (2 * l.i) l.bytes (omega (arith, l.invariant.1))))
+    (λ c. let l = c.loop-i in sym (length-take-le (2 * l.i) l.bytes (omega (arith, l.invariant.1))))
     (λ c κs. search rules)
     returns)

@@ -11,16 +11,16 @@ use Rattle.lab_shows.proofs.Firsts.{mark_in}
 use Rattle.lab_shows.proofs.parts.marks.Statement.{statement}
 use Rattle.lab_shows.proofs.parts.marks.Tie as tie
 
-abbrev invariant-loop : tie.invariant-loop
+abbrev invariant-loop : tie.invariant-loop-i
 invariant-loop written numbers₀ i₀ numbers i = (i ≤ 12) × (length numbers ≡ 12) × (take i numbers ≡ map bit_of (take i written))
 
-abbrev decreases-loop : tie.decreases-loop
+abbrev decreases-loop : tie.decreases-loop-i
 decreases-loop written numbers₀ i₀ numbers i = 12 - i
 
-loop-again : tie.Need-loop-preserved invariant-loop decreases-loop
+loop-again : tie.Need-loop-i-preserved invariant-loop decreases-loop
 loop-again c =
-    let l = c.before.before.loop in
-    let w = c.before.before.before.args.t1 in
+    let l = c.loop-i in
+    let w = c.args.written in
     let n : length w ≡ 12 = search rules in
     rw c.bit.ensures (
       search rules,
@@ -30,8 +30,8 @@ loop-again c =
 
 returns : tie.Need-returns invariant-loop decreases-loop
 returns c =
-    let l = c.before.loop in
-    let w = c.before.before.args.t1 in
+    let l = c.loop-i in
+    let w = c.args.written in
     let n : length w ≡ 12 = search rules in
     let end : l.i ≡ 12 = omega arith in
     sym (take_all 12 l.numbers (omega (arith, l.invariant.1)))
@@ -50,7 +50,7 @@ marks_spec =
     (λ c. search rules)
     (λ c κs. search rules)
     (λ c. search rules)
-    (λ c. omega (arith, c.before.before.loop.invariant.1))
+    (λ c. omega (arith, c.loop-i.invariant.1))
     (λ c. search rules)
     (λ c. search rules)
     loop-again

@@ -11,11 +11,11 @@ use Rattle.lab_shows.proofs.parts.port_numbers.Tie as tie
 
 returns : tie.Need-returns
 returns c =
-    let p = c.before.before.before.before.before.before.before.before.args.pod in
+    let p = c.args.pod in
     rw (
-      c.before.before.before.before.code.ensures,
-      c.before.before.before.bit.ensures,
-      c.before.before.before.before.before.transfer-numbers.ensures,
+      c.code.ensures,
+      c.bit.ensures,
+      c.transfer_numbers-t.ensures,
     ) (ap (λ (l : List ℕ). exchange_code p.exchange ∷ bit_of p.words.error ∷ l) (five_of p.words.transfer (place_numbers p.words.places)))
 
 pub port_numbers_spec : {M : Type 1} → statement M

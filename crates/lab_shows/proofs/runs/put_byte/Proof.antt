@@ -12,23 +12,23 @@ use Rattle.lab_shows.proofs.Short.{byte_most, in_front_of}
 use Rattle.lab_shows.proofs.runs.put_byte.Statement.{statement}
 use Rattle.lab_shows.proofs.runs.put_byte.Tie as tie
 
-slice-aggregate-append : tie.Need-slice-aggregate-append
+slice-aggregate-append : tie.Need-slice_bounds-append-end
 slice-aggregate-append c =
-    let w = c.before.before.before.put-run in
+    let w = c.put_run-n in
     omega (arith, w.ensures.place, ap length (in_front_of _ 21 _ _ _ (omega arith) w.ensures))
 
 append-requires : tie.Need-append-requires
 append-requires c κs =
-    let a = c.before.before.before.before.before.before.before.args in
-    let w = c.before.before.before.put-run in
-    omega (arith, ap length (in_front_of _ 21 _ _ _ (omega arith) w.ensures), byte_most a.b (omega (arith, c.before.before.before.before.before.before.before.ranges.b)))
+    let a = c.args in
+    let w = c.put_run-n in
+    omega (arith, ap length (in_front_of _ 21 _ _ _ (omega arith) w.ensures), byte_most a.b (omega (arith, c.ranges.b)))
 
 returns : tie.Need-returns
 returns c =
-    let start = c.before.before.before.before.before.before.before.before.before.before in
+    let start = c.before in
     let a = start.args in
-    let e = c.before.before.append in
-    let t = in_front_of _ 21 _ _ _ (omega arith) c.before.before.before.before.before.before.put-run.ensures in
+    let e = c.append in
+    let t = in_front_of _ 21 _ _ _ (omega arith) c.put_run-n.ensures in
     appended (spelled (naturals (a.b ∷ []))) 4 _ _ _ _ (e.ensures.0 ∙ ap (λ (x : List ℕ). a.at + length x) t)
     (e.ensures.1 ∙ ap (sets a.out.now a.at) t) (byte_most a.b (omega (arith, start.ranges.b)))
 

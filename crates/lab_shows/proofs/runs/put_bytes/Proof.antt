@@ -12,17 +12,17 @@ use Rattle.decimals.proofs.Spell.{run_on, run_end, one_spelled}
 use Rattle.lab_shows.proofs.runs.put_bytes.Statement.{statement}
 use Rattle.lab_shows.proofs.runs.put_bytes.Tie as tie
 
-abbrev invariant-loop : tie.invariant-loop
+abbrev invariant-loop : tie.invariant-loop-i
 invariant-loop out₀ at list to₀ i₀ out to i = (i ≤ 8) × Left (spelled (naturals list)) (spelled (naturals (drop i list))) (4 * i) at to out₀ out
 
-abbrev decreases-loop : tie.decreases-loop
+abbrev decreases-loop : tie.decreases-loop-i
 decreases-loop out₀ at list to₀ i₀ out to i = 8 - i
 
-loop-again : tie.Need-loop-preserved invariant-loop decreases-loop
+loop-again : tie.Need-loop-i-preserved invariant-loop decreases-loop
 loop-again c =
-    let l = c.before.before.before.before.before.loop in
-    let bs = c.before.before.before.before.before.before.before.args.t3 in
-    let w = c.before.before.put_byte in
+    let l = c.loop-i in
+    let bs = c.args.list in
+    let w = c.put_byte-to in
     let b = get_or bs l.i 0 in
     let n : length bs ≡ 8 = search rules in
     let next = run_on bs l.i (omega arith) ∙ ap (λ (t : List ℕ). t ++ spelled (naturals (drop (l.i + 1) bs))) (one_spelled (pos b)) in
@@ -30,8 +30,8 @@ loop-again c =
 
 returns : tie.Need-returns invariant-loop decreases-loop
 returns c =
-    let l = c.before.loop in
-    let bs = c.before.before.before.args.t3 in
+    let l = c.loop-i in
+    let bs = c.args.list in
     let n : length bs ≡ 8 = search rules in
     whole _ _ (4 * l.i) 32 _ _ _ _ (run_end bs l.i (omega arith)) (omega arith) l.invariant.1
 
@@ -43,9 +43,9 @@ put_bytes_spec =
     decreases-loop
     (λ c. (search rules, none_left _ _ _))
     (λ c. search rules)
-    (λ c κs. let l = c.before.before.loop in omega (arith, l.invariant.1.short, l.invariant.1.size))
+    (λ c κs. let l = c.loop-i in omega (arith, l.invariant.1.short, l.invariant.1.size))
     (λ c. search rules)
     (λ c. search rules)
     loop-again
-    (λ c. c.before.loop.invariant.1.size)
+    (λ c. c.loop-i.invariant.1.size)
     returns)

@@ -14,17 +14,17 @@ use Rattle.decimals.proofs.Spell.{values_on, values_end}
 use Rattle.lab_shows.proofs.runs.put_values.Statement.{statement}
 use Rattle.lab_shows.proofs.runs.put_values.Tie as tie
 
-abbrev invariant-loop : tie.invariant-loop
+abbrev invariant-loop : tie.invariant-loop-i
 invariant-loop out₀ at values to₀ i₀ out to i = (i ≤ 12) × Left (spelled values) (spelled (drop i values)) (22 * i) at to out₀ out
 
-abbrev decreases-loop : tie.decreases-loop
+abbrev decreases-loop : tie.decreases-loop-i
 decreases-loop out₀ at values to₀ i₀ out to i = 12 - i
 
-loop-again : tie.Need-loop-preserved invariant-loop decreases-loop
+loop-again : tie.Need-loop-i-preserved invariant-loop decreases-loop
 loop-again c =
-    let l = c.before.before.before.before.before.before.loop in
-    let vs = c.before.before.before.before.before.before.before.before.args.t3 in
-    let w = c.before.before.put_one in
+    let l = c.loop-i in
+    let vs = c.args.values in
+    let w = c.put_one-to in
     let v = get_or vs l.i (pos 0) in
     let n : length vs ≡ 12 = search rules in
     let back : to_z w32 (of_z w32 v) ≡ v = search rules in
@@ -32,8 +32,8 @@ loop-again c =
 
 returns : tie.Need-returns invariant-loop decreases-loop
 returns c =
-    let l = c.before.loop in
-    let vs = c.before.before.before.args.t3 in
+    let l = c.loop-i in
+    let vs = c.args.values in
     let n : length vs ≡ 12 = search rules in
     whole _ _ (22 * l.i) 264 _ _ _ _ (values_end vs l.i (omega arith)) (omega arith) l.invariant.1
 
@@ -46,9 +46,9 @@ put_values_spec =
     (λ c. (search rules, none_left _ _ _))
     (λ c. search rules)
     (λ c. search rules)
-    (λ c κs. let l = c.before.before.before.loop in omega (arith, l.invariant.1.short, l.invariant.1.size))
+    (λ c κs. let l = c.loop-i in omega (arith, l.invariant.1.short, l.invariant.1.size))
     (λ c. search rules)
     (λ c. search rules)
     loop-again
-    (λ c. c.before.loop.invariant.1.size)
+    (λ c. c.loop-i.invariant.1.size)
     returns)

@@ -16,4 +16,4 @@ all_checks_spec =
     (λ c κs. search rules)
     (λ c κs. search rules)
     (λ c κs. search rules)
-    (λ c. rw (c.before.before.before.before.before.before.gathered-crc.ensures, c.before.before.before.before.before.load-crc.ensures, c.before.before.before.before.crc-of.ensures, c.before.before.before.crc-of2.ensures, c.before.before.words-crc.ensures, c.before.words-crc2.ensures, c.words-crc3.ensures)))
+    (λ c. rw (c.gathered_crc.ensures, c.load_crc.ensures, c.crc_of.ensures, c.crc_of-2.ensures, c.words_crc.ensures, c.words_crc-2.ensures, c.words_crc-3.ensures)))

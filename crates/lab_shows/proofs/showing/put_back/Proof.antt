@@ -15,14 +15,14 @@ use Rattle.lab_shows.proofs.showing.put_back.Tie as tie
 returns : tie.Need-returns
 unfolding back_numbers
 returns c =
-    let p = c.before.before.before.before.before.before.before.before.before.before.before.before.before.before.before.before.before.before.args.pod in
-    let f = c.before.before.before.before.before.before.before.before.before.before.before.before.before.before.before.port-numbers in
-    let g = c.before.before.before.before.before.before.before.before.before.before.before.before.before.before.last-numbers in
+    let p = c.args.pod in
+    let f = c.port_numbers-port in
+    let g = c.last_numbers-last in
     let n : length f.result ≡ 10 = search rules in
     let text : List ℕ → List ℕ = λ l. spelled (naturals l) in
     renamed _ _ 358 358 _ _ _ _ (three-spelled (naturals (port_numbers p)) (address_number p.words.given ∷ []) (naturals (last_numbers p))) (omega arith)
-    (both _ _ 210 148 _ _ _ _ _ _ (renamed _ _ _ 210 _ _ _ _ (ap text f.ensures) (omega arith) c.before.before.before.before.before.before.before.before.before.before.before.put-run.ensures)
-    (both _ _ 22 126 _ _ _ _ _ _ c.before.before.before.before.before.before.before.put-address.ensures (renamed _ _ _ 126 _ _ _ _ (ap text g.ensures) (omega (arith, ap length g.ensures)) c.before.before.put-run2.ensures)))
+    (both _ _ 210 148 _ _ _ _ _ _ (renamed _ _ _ 210 _ _ _ _ (ap text f.ensures) (omega arith) c.put_run-a.ensures)
+    (both _ _ 22 126 _ _ _ _ _ _ c.put_address-b.ensures (renamed _ _ _ 126 _ _ _ _ (ap text g.ensures) (omega (arith, ap length g.ensures)) c.put_run.ensures)))
 
 pub put_back_spec : {M : Type 1} → statement M
 put_back_spec =

@@ -10,8 +10,8 @@ use Rattle.lab_shows.proofs.showing.put_list.Tie as tie
 returns : tie.Need-returns
 unfolding shown_list
 returns c =
-    let e = c.before.before.append in
-    both _ _ 32 1 _ _ _ _ _ _ c.before.before.before.before.before.before.before.put-bytes.ensures (appended (10 ∷ []) 1 _ _ _ _ e.ensures.0 e.ensures.1 (omega arith))
+    let e = c.append in
+    both _ _ 32 1 _ _ _ _ _ _ c.put_bytes-a.ensures (appended (10 ∷ []) 1 _ _ _ _ e.ensures.0 e.ensures.1 (omega arith))
 
 pub put_list_spec : {M : Type 1} → statement M
 put_list_spec =

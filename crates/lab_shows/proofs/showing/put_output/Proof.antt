@@ -12,9 +12,9 @@ use Rattle.lab_shows.proofs.showing.put_output.Tie as tie
 returns : tie.Need-returns
 unfolding shown_output
 returns c =
-    let check = c.before.before.before.before.before.before.before.before.before.before.before.before.hand-crc in
-    both _ _ 42 5 _ _ _ _ _ _ c.before.before.before.before.before.before.before.put-run.ensures
-    (renamed _ _ _ 5 _ _ _ _ (ap (λ (n : ℕ). spelled_words (n ∷ [])) check.ensures) (omega arith) c.before.before.put_words.ensures)
+    let check = c.hand_crc in
+    both _ _ 42 5 _ _ _ _ _ _ c.put_run-a.ensures
+    (renamed _ _ _ 5 _ _ _ _ (ap (λ (n : ℕ). spelled_words (n ∷ [])) check.ensures) (omega arith) c.put_words.ensures)
 
 pub put_output_spec : {M : Type 1} → statement M
 put_output_spec =

@@ -14,18 +14,18 @@ use Rattle.lab_shows.proofs.showing.show.Tie as tie
 returns : tie.Need-returns
 unfolding shown_text
 returns c =
-    let a = c.before.before.before.before.before.before.before.before.before.before.before.before.before.before.before.before.before.before.before.before.before.before.before.before.before.before.before.before.before.before.before.before.before.args in
-    let k = c.before.before.before.before.before.before.before.before.before.before.before.before.before.before.before.before.before.before.before.before.before.before.before.before.before.before.all-checks in
-    let v = c.before.before.before.before.before.before.before.before.before.before.before.before.before.before.before.before.before.before.before.before.before.before.before.append in
+    let a = c.args in
+    let k = c.all_checks-checks in
+    let v = c.append-first in
     let n : length k.result ≡ 7 = search rules in
     let lent = lent_of a.priority.now a.ordinary.now a.five.now a.six.now a.seven.now a.load.now in
     let end : List ℕ = spelled_words (shown_checks a.pod lent) ++ (shown_output a.pod ++ shown_list a.pod) in
     renamed _ _ 1200 1200 _ _ _ _ (ap (λ (t : List ℕ). 86 ∷ t) (in_front (front_numbers a.pod) (back_numbers a.pod) end)) (omega arith)
     (both (86 ∷ []) _ 1 1199 _ _ _ _ _ _ (appended (86 ∷ []) 1 _ _ _ _ v.ensures.0 v.ensures.1 (omega arith))
-    (both _ _ 726 473 _ _ _ _ _ _ c.before.before.before.before.before.before.before.before.before.before.before.before.before.before.before.before.before.before.before.put_front.ensures
-    (both _ _ 358 115 _ _ _ _ _ _ c.before.before.before.before.before.before.before.before.before.before.before.before.before.before.before.put_back.ensures
-    (both _ _ 35 80 _ _ _ _ _ _ (renamed _ _ _ 35 _ _ _ _ (ap spelled_words k.ensures) (omega arith) c.before.before.before.before.before.before.before.before.before.before.put_words.ensures)
-    (both _ _ 47 33 _ _ _ _ _ _ c.before.before.before.before.before.before.put-output.ensures c.before.before.put-list.ensures)))))
+    (both _ _ 726 473 _ _ _ _ _ _ c.put_front-front.ensures
+    (both _ _ 358 115 _ _ _ _ _ _ c.put_back-back.ensures
+    (both _ _ 35 80 _ _ _ _ _ _ (renamed _ _ _ 35 _ _ _ _ (ap spelled_words k.ensures) (omega arith) c.put_words-last.ensures)
+    (both _ _ 47 33 _ _ _ _ _ _ c.put_output-behind.ensures c.put_list.ensures)))))
 
 pub show_spec : {M : Type 1} → statement M
 show_spec =
@@ -39,6 +39,6 @@ show_spec =
     (λ c. search rules)
     (λ c κs. search rules)
     (λ c κs. search rules)
-    (λ c κs. search (rules, c.before.before.before.before.before.before.before.before.before.before.before.before.before.before.before.before.before.before.before.before.before.before.before.before.before.before.before.before.before.before.requires))
+    (λ c κs. search (rules, c.requires))
     (λ c. search rules)
     returns)

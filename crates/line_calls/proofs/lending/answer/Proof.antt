@@ -80,10 +80,10 @@ returns c =
     let m = memory a.room.now a.priority.now a.ordinary.now a.five.now a.six.now a.seven.now a.load.now in
     let l = c.reply.new in
     let k = c.reply.auto in
-    let parts = memory l.1.1.1.1.0 l.1.1.1.1.1.0 l.1.1.1.1.1.1.0 l.1.1.1.1.1.1.1.0 l.1.1.1.1.1.1.1.1.0 l.1.1.1.1.1.1.1.1.1.0 l.1.1.1.1.1.1.1.1.1.1.0 in
+    let parts = memory l.room l.priority l.ordinary l.five l.six l.seven l.load in
     let fits : SizesFit s m = c.requires.0 in
-    let kept : PartsKept s m parts = record { room = k.1.1.1.1.0; priority = k.1.1.1.1.1.0; ordinary = k.1.1.1.1.1.1.0; five = k.1.1.1.1.1.1.1.0; six = k.1.1.1.1.1.1.1.1.0; seven = k.1.1.1.1.1.1.1.1.1.0 } in
-    record { answered = answered_lent s m parts fits kept (heard_line a.line a.bytes.now a.words.now) a.pod c.reply.result a.out.now l.1.1.1.1.1.1.1.1.1.1.1.0 a.at c.reply.ensures; rest = behind_is s m parts fits kept }
+    let kept : PartsKept s m parts = record { room = k.room; priority = k.priority; ordinary = k.ordinary; five = k.five; six = k.six; seven = k.seven } in
+    record { answered = answered_lent s m parts fits kept (heard_line a.line a.bytes.now a.words.now) a.pod c.reply.result a.out.now l.out a.at c.reply.ensures; rest = behind_is s m parts fits kept }
 
 pub answer_spec : {M : Type 1} → statement M
 answer_spec =

@@ -17,26 +17,21 @@ returns c =
     let e : get_or t 0 0 ≡ 0 = rw z in
     no_bytes (packet_in t) a.bytes.now (packet_no t (λ h. omega arith))
 
-returns-2 : tie.Need-returns-then-line-ne80
-returns-2 c =
-    let a = c.args in
-    let t = a.line.now in
-    no_bytes (packet_in t) a.bytes.now (packet_no t c.if-line-ne80.true)
-
 returns-3 : tie.Need-returns
 returns-3 c =
     let a = c.args in
     let t = a.line.now in
     let read = simp (the_rest t 1) at c.bytes_in.ensures in
+    let first : get_or t 0 0 ≡ 80 = search rules in
     packet_is t a.bytes.now c.bytes_in.new.bytes c.bytes_in.result c.packet_of.result
-    c.if-line-ne80.false read.0 read.1 c.packet_of.ensures
+    first read.0 read.1 c.packet_of.ensures
 
 pub packet_line_spec : {M : Type 1} → statement M
 packet_line_spec =
     tie.close (tie.spec
     returns
     (λ c. search rules)
-    returns-2
+    (λ c. no_bytes (packet_in c.args.line.now) c.args.bytes.now (packet_no c.args.line.now (search rules)))
     (λ c. search rules)
     (λ c. search rules)
     (λ c. search rules)

@@ -4,34 +4,11 @@ use borrow.Author.Rules.{rules}
 use Rattle.lines.proofs.asking.read_line.Statement.{statement}
 use Rattle.lines.proofs.asking.read_line.Tie as tie
 
-returns-2 : tie.Need-returns-then-letter-eq80
-returns-2 c =
-    let a = c.args in
-    let r = c.packet_line in
-    line_packet a.line.now a.bytes.now r.new.bytes a.words.now r.result c.if-letter-eq80.true r.ensures.0 r.ensures.1
-
-returns-3 : tie.Need-returns-then-letter-eq66
-returns-3 c =
-    let a = c.args in
-    let r = c.put_line in
-    line_put a.line.now a.bytes.now r.new.bytes a.words.now r.result c.if-letter-eq66.true r.ensures.0 r.ensures.1
-
-returns-4 : tie.Need-returns-then-letter-eq79
-returns-4 c =
-    let a = c.args in
-    let r = c.out_line in
-    line-out a.line.now a.bytes.now r.new.bytes a.words.now r.result c.if-letter-eq79.true r.ensures.0 r.ensures.1
-
-returns-5 : tie.Need-returns-then-letter-eq65
-returns-5 c =
-    let a = c.args in
-    let r = c.samples_line in
-    line_samples a.line.now a.bytes.now a.words.now r.new.words r.result c.if-letter-eq65.true r.ensures.0 r.ensures.1
-
 returns-6 : tie.Need-returns
 returns-6 c =
     let a = c.args in
-    line_short a.line.now a.bytes.now a.words.now c.short.result c.if-letter-eq80.false c.if-letter-eq66.false c.if-letter-eq79.false c.if-letter-eq65.false (simp (the_rest a.line.now 1) at c.short.ensures)
+    line_short a.line.now a.bytes.now a.words.now c.short.result (search rules) (search rules) (search rules) (search rules)
+    (simp (the_rest a.line.now 1) at c.short.ensures)
 
 pub read_line_spec : {M : Type 1} → statement M
 read_line_spec =
@@ -40,16 +17,16 @@ read_line_spec =
     (λ c. search rules)
     (λ c κs. search rules)
     (λ c. search rules)
-    returns-2
+    (λ c. let a = c.args in let r = c.packet_line in line_packet a.line.now a.bytes.now r.new.bytes a.words.now r.result (search rules) r.ensures.0 r.ensures.1)
     (λ c κs. search rules)
     (λ c. search rules)
-    returns-3
+    (λ c. let a = c.args in let r = c.put_line in line_put a.line.now a.bytes.now r.new.bytes a.words.now r.result (search rules) r.ensures.0 r.ensures.1)
     (λ c κs. search rules)
     (λ c. search rules)
-    returns-4
+    (λ c. let a = c.args in let r = c.out_line in line-out a.line.now a.bytes.now r.new.bytes a.words.now r.result (search rules) r.ensures.0 r.ensures.1)
     (λ c κs. search rules)
     (λ c. search rules)
-    returns-5
+    (λ c. let a = c.args in let r = c.samples_line in line_samples a.line.now a.bytes.now a.words.now r.new.words r.result (search rules) r.ensures.0 r.ensures.1)
     (λ c. search rules)
     (λ c. search rules)
     (λ c. search rules)
