@@ -1,6 +1,7 @@
 -- By what the output and the input do.
 use Rattle.std.proofs.Common.{arith, ℕ, ◌≤◌, List, length}
-use Rattle.std.specs.Result.{Result, Ok, Err, result_unwrap_or}
+use Rattle.std.specs.Prelude.{Result, Ok, Err}
+use Rattle.std.specs.Result.{result_unwrap_or}
 use Rattle.std.specs.Io.{ReadsAtMost}
 use mathlib.Core.Path.{sym, ◌∙◌}
 use Rattle.pieces.specs.Desks.{failed, stays, ends, reads}

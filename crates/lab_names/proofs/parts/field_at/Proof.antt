@@ -17,4 +17,4 @@ field_at_spec =
     (λ c. rw c.in-5.is)
     (λ c. rw c.in-6.is)
     (λ c. rw c.in-7.is)
-    (λ c. rw (last_of 8 c.args.i c.in_default.rest c.requires)))
+    (λ c. rw (last_of 8 c.args.i c.in_default.in_default-own.rest c.requires)))

@@ -20,4 +20,4 @@ port_at_spec =
     (λ c. rw c.in-8.is)
     (λ c. rw c.in-9.is)
     (λ c. rw c.in-10.is)
-    (λ c. rw (last_of 11 c.args.i c.in_default.rest c.requires)))
+    (λ c. rw (last_of 11 c.args.i c.in_default.in_default-own.rest c.requires)))

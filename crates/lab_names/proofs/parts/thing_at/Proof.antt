@@ -14,4 +14,4 @@ thing_at_spec =
     (λ c. rw c.in-2.is)
     (λ c. rw c.in-3.is)
     (λ c. rw c.in-4.is)
-    (λ c. rw (last_of 5 c.args.i c.in_default.rest c.requires)))
+    (λ c. rw (last_of 5 c.args.i c.in_default.in_default-own.rest c.requires)))

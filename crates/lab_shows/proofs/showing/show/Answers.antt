@@ -8,10 +8,9 @@ use lib.ListN.{length}
 use Rattle.lab_shows.specs.Shown.{spelled_words, front_numbers, back_numbers, shown_checks, shown_output, shown_list, shown_text, lent_of}
 use Rattle.decimals.proofs.Behind.{appended, both, renamed}
 use Rattle.lab_shows.proofs.Spell.{in_front}
-use Rattle.lab_shows.proofs.showing.show.Statement.{statement}
-use Rattle.lab_shows.proofs.showing.show.Tie as tie
+use Rattle.lab_shows.proofs.showing.show.Goals as goal
 
-returns : tie.Need-returns
+pub returns : goal.returns
 unfolding shown_text
 returns c =
     let a = c.args in
@@ -21,24 +20,8 @@ returns c =
     let lent = lent_of a.priority.now a.ordinary.now a.five.now a.six.now a.seven.now a.load.now in
     let end : List ℕ = spelled_words (shown_checks a.pod lent) ++ (shown_output a.pod ++ shown_list a.pod) in
     renamed _ _ 1200 1200 _ _ _ _ (ap (λ (t : List ℕ). 86 ∷ t) (in_front (front_numbers a.pod) (back_numbers a.pod) end)) (omega arith)
-    (both (86 ∷ []) _ 1 1199 _ _ _ _ _ _ (appended (86 ∷ []) 1 _ _ _ _ v.ensures.0 v.ensures.1 (omega arith))
+    (both (86 ∷ []) _ 1 1199 _ _ _ _ _ _ (appended (86 ∷ []) 1 _ _ _ _ v.ensures.value v.ensures.out_after (omega arith))
     (both _ _ 726 473 _ _ _ _ _ _ c.put_front-front.ensures
     (both _ _ 358 115 _ _ _ _ _ _ c.put_back-back.ensures
     (both _ _ 35 80 _ _ _ _ _ _ (renamed _ _ _ 35 _ _ _ _ (ap spelled_words k.ensures) (omega arith) c.put_words-last.ensures)
     (both _ _ 47 33 _ _ _ _ _ _ c.put_output-behind.ensures c.put_list.ensures)))))
-
-pub show_spec : {M : Type 1} → statement M
-show_spec =
-    tie.close
-    (tie.spec
-    (λ c κs. search rules)
-    (λ c. search rules)
-    (λ c κs. search rules)
-    (λ c κs. search rules)
-    (λ c κs. search rules)
-    (λ c. search rules)
-    (λ c κs. search rules)
-    (λ c κs. search rules)
-    (λ c κs. search (rules, c.requires))
-    (λ c. search rules)
-    returns)
