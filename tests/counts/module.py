@@ -4,12 +4,14 @@ half as firmware makes them, external and not inlined, and for another processor
 A folder of links stands in for the kit, whose clang notes what it is given and then does its work. So what is kept is the
 module of the very run that proved and built the program.
 """
+import contextlib
 import functools
 import platform
 import re
 import shutil
 import subprocess
 import sys
+import tempfile
 from pathlib import Path
 
 TOP = Path(__file__).resolve().parents[2]
@@ -103,21 +105,23 @@ def links(folder, to, *but):
             (folder / part.name).symlink_to(part)
 
 
+@contextlib.contextmanager
 def keeper(name):
-    """The command of the kit again, but for its clang, which keeps what it is given of a program."""
-    place = KEPT / "kit"
-    shutil.rmtree(place, ignore_errors=True)
-    place.parent.mkdir(parents=True, exist_ok=True)
-    links(place, kit(), "bin", "toolchain")
-    links(place / "bin", kit() / "bin", *RT)
-    for part in RT:
-        shutil.copy(kit() / "bin" / part, place / "bin")
-    links(place / "toolchain", tools(), "bin")
-    links(place / "toolchain" / "bin", tools() / "bin", "clang")
-    there = place / "toolchain" / "bin" / "clang"
-    there.write_text(KEEPER.format(keep=KEPT / name, clang=tools() / "bin" / "clang"))
-    there.chmod(0o755)
-    return place / "bin" / "rt"
+    """The command of the kit again, but for its clang, which keeps what it is given of a program. It lies outside the repository,
+    where rt suffers no links."""
+    KEPT.mkdir(parents=True, exist_ok=True)
+    with tempfile.TemporaryDirectory() as folder:
+        place = Path(folder) / "kit"
+        links(place, kit(), "bin", "toolchain")
+        links(place / "bin", kit() / "bin", *RT)
+        for part in RT:
+            shutil.copy(kit() / "bin" / part, place / "bin")
+        links(place / "toolchain", tools(), "bin")
+        links(place / "toolchain" / "bin", tools() / "bin", "clang")
+        there = place / "toolchain" / "bin" / "clang"
+        there.write_text(KEEPER.format(keep=KEPT / name, clang=tools() / "bin" / "clang"))
+        there.chmod(0o755)
+        yield place / "bin" / "rt"
 
 
 def present(name):
@@ -135,7 +139,8 @@ def kept(name):
         return module
     for old in (module, seen, out / f"{name}.stamp"):  # by the last one rt sees that there is nothing to compile
         old.unlink(missing_ok=True)
-    run(keeper(name), "run", cwd=out.parent, input=b"", stderr=subprocess.DEVNULL)
+    with keeper(name) as rt:
+        run(rt, "run", cwd=out.parent, input=b"", stderr=subprocess.DEVNULL)
     if not module.exists():
         fail(f"nothing was compiled for {name}")
     if (out / f"{name}.o").read_bytes() != compiled(name, module).read_bytes():
@@ -150,7 +155,8 @@ def archived(name):
     """The same of a library that C programs link: `rt lib` proves and compiles it anew whenever it is called."""
     module, out = KEPT / f"lib{name}.bc", TOP / "crates" / name / "out"
     module.unlink(missing_ok=True)
-    run(keeper(f"lib{name}"), "lib", cwd=out.parent, stderr=subprocess.DEVNULL)
+    with keeper(f"lib{name}") as rt:
+        run(rt, "lib", cwd=out.parent, stderr=subprocess.DEVNULL)
     if not module.exists():
         fail(f"nothing was compiled for lib{name}.a")
     if run(tools() / "bin" / "llvm-ar", "p", out / f"lib{name}.a") != compiled(f"lib{name}", module).read_bytes():
@@ -160,7 +166,7 @@ def archived(name):
 
 def compiled(name, module):
     """The object file of a module for x86-64, by the words with which the kit compiled this program's."""
-    words = (KEPT / f"{name}.words").read_text().splitlines()
+    words = re.sub("^--sysroot=.*$", f"--sysroot={tools()}", (KEPT / f"{name}.words").read_text(), flags=re.M).splitlines()
     out = module.with_suffix(".o")
     clang(*[{"module.bc": module, "module.o": out}.get(word, word) for word in words])
     return out

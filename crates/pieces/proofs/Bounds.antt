@@ -1,6 +1,6 @@
 -- A turn keeps to the bounds, and leaves no more turns than there were.
 -- Assumes nothing.
-use Prim.Native.Nat.{ℕ, ◌≤◌, ◌<◌}
+use Prim.Native.Nat.{ℕ, ◌≤◌}
 use native.Mathlib.Omega.{arith}
 use Rattle.lines.specs.declared.Cursor.{Cursor}
 use Rattle.pieces.specs.declared.Desk.{Desk}

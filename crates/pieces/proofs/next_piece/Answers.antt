@@ -1,9 +1,8 @@
--- By what the output and the input do.
+-- `pieces::next_piece` meets its contract: by what the output and the input do. Assumes nothing.
 use Rattle.std.proofs.Common.{arith, ℕ, ◌≤◌, List, length}
 use Rattle.std.specs.Prelude.{Result, Ok, Err}
 use Rattle.std.specs.Result.{result_unwrap_or}
 use Rattle.std.specs.Io.{ReadsAtMost}
-use mathlib.Core.Path.{sym, ◌∙◌}
 use Rattle.pieces.specs.Desks.{failed, stays, ends, reads}
 use Rattle.pieces.proofs.next_piece.Goals as goal
 

@@ -1,6 +1,5 @@
--- By what is on its way, or that nothing is.
+-- `aircraft_answers::answering::again` meets its contract: what is on its way, or that nothing is. Assumes nothing.
 use native.Mathlib.Omega.{arith}
-use borrow.Author.Rules.{rules}
 use mathlib.Core.List.{[], ◌∷◌}
 use Rattle.decimals.proofs.Behind.{appended}
 use Rattle.aircraft_answers.specs.Promise.{way_in}

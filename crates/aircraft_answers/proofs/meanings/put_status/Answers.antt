@@ -1,11 +1,10 @@
--- By the word, the numbers and the ids.
+-- `aircraft_answers::meanings::put_status` meets its contract: the word, the numbers and the ids. Assumes nothing.
 use Prim.Native.Nat.{◌+◌, ◌*◌}
 use native.Mathlib.Omega.{arith}
-use borrow.Author.Rules.{rules}
 use mathlib.Core.List.{[], ◌∷◌}
 use lib.ListN.{length}
 use Rattle.decimals.specs.Printing.{spelled, naturals}
-use Rattle.decimals.proofs.Behind.{appended, both, renamed, same_size}
+use Rattle.decimals.proofs.Behind.{appended, both, renamed}
 use Rattle.airframe.specs.Reading.{shown_report}
 use Rattle.aircraft_answers.specs.Words.{characters}
 use Rattle.aircraft_answers.proofs.Texts.{status_text}

@@ -1,4 +1,4 @@
--- By the word, the id and the value.
+-- `aircraft_answers::meanings::put_value` meets its contract: the word, the id and the value. Assumes nothing.
 use native.Mathlib.Omega.{arith}
 use borrow.Author.Rules.{rules}
 use mathlib.Core.Path.{◌≡◌}
@@ -7,7 +7,7 @@ use lib.IntN.{pos}
 use mir.Syntax.{w32}
 use mir.Val.{to_z, of_z}
 use Rattle.decimals.specs.Printing.{spelled}
-use Rattle.decimals.proofs.Behind.{appended, both, renamed, same_size}
+use Rattle.decimals.proofs.Behind.{appended, both, renamed}
 use Rattle.aircraft_answers.specs.Words.{characters}
 use Rattle.aircraft_answers.proofs.Texts.{value_text}
 use Rattle.aircraft_answers.proofs.meanings.put_value.Goals as goal

@@ -7,7 +7,7 @@ use mathlib.Core.List.{List}
 use lib.Dec.{ltb}
 use lib.ListN.{take, drop}
 use borrow.Author.Tests.{lt-ltb, le-ltb}
-use Rattle.rows.proofs.Bool.{and_both, not-true, not-false}
+use Rattle.rows.proofs.Bool.{and_both}
 use Rattle.lines.specs.Asked.{one_byte}
 use Rattle.lines.proofs.Cases.{the_rest, no_byte}
 use Rattle.decimals.specs.Reading.{numbers_in, numbers_read}

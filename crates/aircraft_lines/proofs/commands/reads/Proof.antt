@@ -2,7 +2,6 @@
 use native.Mathlib.Omega.{arith}
 use mathlib.Core.Path.{sym, ◌∙◌}
 use borrow.Author.Tests.{lt-ltb, le-ltb}
-use Rattle.rows.proofs.Bool.{not-true, not-false}
 use Rattle.aircraft_lines.proofs.Said.{read_none, read-outside, read_says}
 use borrow.Author.Rules.{rules}
 use Rattle.aircraft_lines.proofs.commands.reads.Statement.{statement}

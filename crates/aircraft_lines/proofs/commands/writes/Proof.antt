@@ -8,7 +8,7 @@ use lib.IntN.{ℤ}
 use mir.Syntax.{w32}
 use mir.Val.{to_z, of_z}
 use borrow.Author.Tests.{ltb-true}
-use Rattle.rows.proofs.Bool.{and_left, and_right, not-true, not-false}
+use Rattle.rows.proofs.Bool.{and_left, and_right}
 use Rattle.packets.specs.declared.Command.TheVariants.{Write}
 use Rattle.aircraft_lines.specs.declared.Line.TheVariants.{Send}
 use Rattle.airframe.specs.Given.{value_typed}

@@ -3,7 +3,6 @@ use mathlib.Core.Path.{◌≡◌, sym, ap, ◌∙◌}
 use mathlib.Core.Bool.{true, ◌||◌}
 use lib.Dec.{eqb}
 use lib.ListN.{length}
-use Rattle.rows.proofs.Bool.{not-true, not-false}
 use Rattle.airframe.specs.Given.{given_in}
 use Rattle.aircraft_lines.specs.Asked.{all_plain, line_given}
 use Rattle.aircraft_lines.proofs.Said.{nine_none, nine_signed, nine_given}

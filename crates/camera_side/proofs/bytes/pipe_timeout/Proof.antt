@@ -10,10 +10,7 @@ use Rattle.camera_side.proofs.bytes.pipe_timeout.Tie as tie
 
 returns-2 : tie.Need-returns-in-Open
 unfolding lone_call lone_of pipe_of
-returns-2 c =
-    let e = c.before in
-    rw (c.timeout-in-Open.ensures, c.timeout.ensures) at c.passed.ensures
-    ∙ given_is _ _ _ (rw e.in-Open.is at e.pipe_gate-gate.ensures)
+returns-2 c = c.passed.ensures ∙ (cc) ∙ given_is _ _ _ (rw c.in-Open.is at c.pipe_gate-gate.ensures)
 
 pub pipe_timeout_spec : {M : Type 1} → statement M
 unfolding lone_call
@@ -23,7 +20,7 @@ pipe_timeout_spec =
     (λ c. search rules)
     (λ c κs. search rules)
     (λ c. search rules)
-    (λ c κs. (pipe_fits _ (rw c.in-Open.is at c.pipe_gate-gate.ensures)).0.0)
+    (λ c κs. let fits = pipe_fits _ (rw c.in-Open.is at c.pipe_gate-gate.ensures) in search rules)
     (λ c κs. search rules)
     (λ c κs. search rules)
     (λ c. c.unpassed.ensures ∙ refused_is _ _ _ (rw c.in-Shut.is at c.pipe_gate-gate.ensures))

@@ -10,9 +10,7 @@ use Rattle.camera_side.proofs.bytes.taken.Tie as tie
 
 returns-2 : tie.Need-returns-in-Open
 unfolding lone_call lone_of pipe_of
-returns-2 c =
-    let e = c.before in
-    rw c.taken.ensures at c.handed.ensures ∙ given_is _ _ _ (rw e.in-Open.is at e.pipe_gate-gate.ensures)
+returns-2 c = c.handed.ensures ∙ (cc) ∙ given_is _ _ _ (rw c.in-Open.is at c.pipe_gate-gate.ensures)
 
 pub taken_spec : {M : Type 1} → statement M
 unfolding lone_call
@@ -22,7 +20,7 @@ taken_spec =
     (λ c. search rules)
     (λ c κs. search rules)
     (λ c. search rules)
-    (λ c κs. (pipe_fits _ (rw c.in-Open.is at c.pipe_gate-gate.ensures)).1.0)
+    (λ c κs. let fits = pipe_fits _ (rw c.in-Open.is at c.pipe_gate-gate.ensures) in search rules)
     (λ c κs. search rules)
     (λ c. c.unpassed.ensures ∙ refused_is _ _ _ (rw c.in-Shut.is at c.pipe_gate-gate.ensures))
     returns-2)

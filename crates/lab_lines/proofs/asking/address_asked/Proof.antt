@@ -15,8 +15,8 @@ address_asked_spec =
     tie.close
     (tie.spec
     (λ c κs. search rules)
-    (λ c. rw (sym c.before.minus_one.ensures ∙ c.if1.true))
+    (λ c. rw (sym c.minus_one.ensures ∙ c.if-minus_one.true))
     (λ c κs. search rules)
-    (λ c. record { fits = omega (arith, up_most 65535 c.before.before.before.before.before.args.n (sym c.before.before.up_to_lem.ensures ∙ c.before.if2.true)) })
-    (λ c. rw (sym c.before.before.before.before.minus_one.ensures ∙ c.before.before.before.if1.false, sym c.before.before.up_to_lem.ensures ∙ c.before.if2.true))
-    (λ c. rw (sym c.before.before.before.minus_one.ensures ∙ c.before.before.if1.false, sym c.before.up_to_lem.ensures ∙ c.if2.false)))
+    (λ c. record { fits = omega (arith, up_most 65535 c.args.n (sym c.up_to.ensures ∙ c.if-up_to.true)) })
+    (λ c. rw (sym c.minus_one.ensures ∙ c.if-minus_one.false, sym c.up_to.ensures ∙ c.if-up_to.true))
+    (λ c. rw (sym c.minus_one.ensures ∙ c.if-minus_one.false, sym c.up_to.ensures ∙ c.if-up_to.false)))

@@ -14,5 +14,5 @@ cell_asked_spec =
     (tie.spec
     (λ c κs. search rules)
     (λ c κs. search rules)
-    (λ c. rw (sym (c.before.up_to_lem.ensures ∙ ap (λ (m : ℕ). up_to m c.before.before.before.args.n) c.before.before.cell-most.ensures) ∙ c.if1.true))
-    (λ c. rw (sym (c.before.up_to_lem.ensures ∙ ap (λ (m : ℕ). up_to m c.before.before.before.args.n) c.before.before.cell-most.ensures) ∙ c.if1.false)))
+    (λ c. rw (sym (c.up_to.ensures ∙ ap (λ (m : ℕ). up_to m c.args.n) c.cell_most.ensures) ∙ c.if-up_to.true))
+    (λ c. rw (sym (c.up_to.ensures ∙ ap (λ (m : ℕ). up_to m c.args.n) c.cell_most.ensures) ∙ c.if-up_to.false)))

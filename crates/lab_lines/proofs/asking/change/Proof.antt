@@ -14,18 +14,18 @@ use Rattle.lab_lines.proofs.asking.change.Tie as tie
 returns : tie.Need-returns
 unfolding change_in
 returns c =
-    let t = c.before.before.before.before.before.before.before.args.text.now in
-    let e = c.before.before.before.before.before.name-end in
+    let t = c.args.text.now in
+    let e = c.name_end-end in
     c.asked_of.ensures
-    ∙ ap₂ asked_of (c.before.before.before.named.ensures ∙ ap part_named e.ensures.0)
-    (c.before.numbers-in.ensures ∙ ap (λ (l : List ℕ). numbers_read (numbers_in l)) (the_rest t e.result ∙ e.ensures.1))
+    ∙ ap₂ asked_of (c.named.ensures ∙ ap part_named e.ensures.0)
+    (c.numbers_in.ensures ∙ ap (λ (l : List ℕ). numbers_read (numbers_in l)) (the_rest t e.result ∙ e.ensures.1))
 
 pub change_spec : {M : Type 1} → statement M
 change_spec =
     tie.close
     (tie.spec
     (λ c κs. search rules)
-    (λ c. sym (length-take-le c.before.name-end.result c.before.before.before.args.text.now c.before.name-end.ensures.2))
+    (λ c. sym (length-take-le c.name_end-end.result c.args.text.now c.name_end-end.ensures.2))
     (λ c κs. search rules)
     (λ c. search rules)
     (λ c. search rules)

@@ -11,8 +11,8 @@ exchange_asked_spec =
     tie.close
     (tie.spec
     (λ c κs. search rules)
-    (λ c. rw (sym c.before.minus_one.ensures ∙ c.if1.true))
+    (λ c. rw (sym c.minus_one.ensures ∙ c.if-minus_one.true))
     (λ c κs. search rules)
-    (λ c. rw (sym c.before.before.before.minus_one.ensures ∙ c.before.before.if1.false, sym c.before.below.ensures ∙ c.if2.true))
+    (λ c. rw (sym c.minus_one.ensures ∙ c.if-minus_one.false, sym c.below.ensures ∙ c.if-below.true))
     (λ c κs. search rules)
-    (λ c. rw (sym c.before.before.before.before.minus_one.ensures ∙ c.before.before.before.if1.false, sym c.before.before.below.ensures ∙ c.before.if2.false) c.exchange-of.ensures))
+    (λ c. rw (sym c.minus_one.ensures ∙ c.if-minus_one.false, sym c.below.ensures ∙ c.if-below.false) c.exchange_of.ensures))

@@ -9,8 +9,8 @@ unfolding exchange_of
 exchange_of_spec =
     tie.close
     (tie.spec
-    (λ c. rw (eq-eqb _ 145 c.if1.true))
-    (λ c. rw (ne_eqb _ 145 c.before.if1.false, eq-eqb _ 148 c.if2.true))
-    (λ c. rw (ne_eqb _ 145 c.before.before.if1.false, ne_eqb _ 148 c.before.if2.false, eq-eqb _ 149 c.if3.true))
-    (λ c. rw (ne_eqb _ 145 c.before.before.before.if1.false, ne_eqb _ 148 c.before.before.if2.false, ne_eqb _ 149 c.before.if3.false, eq-eqb _ 150 c.if4.true))
-    (λ c. rw (ne_eqb _ 145 c.before.before.before.if1.false, ne_eqb _ 148 c.before.before.if2.false, ne_eqb _ 149 c.before.if3.false, ne_eqb _ 150 c.if4.false)))
+    (λ c. rw (eq-eqb _ 145 c.if-code-eq145.true))
+    (λ c. rw (ne_eqb _ 145 c.if-code-eq145.false, eq-eqb _ 148 c.if-code-eq148.true))
+    (λ c. rw (ne_eqb _ 145 c.if-code-eq145.false, ne_eqb _ 148 c.if-code-eq148.false, eq-eqb _ 149 c.if-code-eq149.true))
+    (λ c. rw (ne_eqb _ 145 c.if-code-eq145.false, ne_eqb _ 148 c.if-code-eq148.false, ne_eqb _ 149 c.if-code-eq149.false, eq-eqb _ 150 c.if-code-eq150.true))
+    (λ c. rw (ne_eqb _ 145 c.if-code-eq145.false, ne_eqb _ 148 c.if-code-eq148.false, ne_eqb _ 149 c.if-code-eq149.false, ne_eqb _ 150 c.if-code-eq150.false)))

@@ -6,7 +6,7 @@ use mathlib.Core.List.{List}
 use Prim.Native.Nat.{ℕ, ◌≤◌, ◌<◌}
 use lib.ListN.{length, take, drop, drop_of_length-le}
 use lib.Seq.{take_all, take-length}
-use Rattle.decimals.proofs.Pieces.{found_at}
+use Rattle.decimals.proofs.Pieces.{found_at, found_within}
 use Rattle.lab_lines.specs.Asked.{name_end}
 use Rattle.lab_lines.proofs.asking.name_end.Statement.{statement}
 use Rattle.lab_lines.proofs.asking.name_end.Tie as tie
@@ -20,16 +20,16 @@ short-end t h = (
   omega arith,
 )
 
-returns-2 : tie.Need-returns-2
+returns-2 : tie.Need-returns
 returns-2 c =
-    let t = c.before.before.before.args.text.now in
-    let e = found_at t 2 c.find.result c.find.ensures.0 in
-    (ap (λ (k : ℕ). take k t) e, ap (λ (k : ℕ). drop k t) e, c.find.ensures.1)
+    let t = c.args.text.now in
+    let e = found_at t 2 c.find.result c.find.ensures in
+    (ap (λ (k : ℕ). take k t) e, ap (λ (k : ℕ). drop k t) e, found_within t 2 c.find.result (omega arith) e)
 
 pub name_end_spec : {M : Type 1} → statement M
 name_end_spec =
     tie.close
     (tie.spec
-    (λ c. short-end c.before.before.args.text.now c.if1.true)
+    (λ c. short-end c.args.text.now c.if-text-lt2.true)
     (λ c κs. search rules)
     returns-2)

@@ -15,5 +15,5 @@ thing_asked_spec =
     (λ c κs. search rules)
     (λ c. search rules)
     (λ c κs. search rules)
-    (λ c. rw (sym (c.before.up_to_lem.ensures ∙ ap (λ (m : ℕ). up_to (m + 1024) c.before.before.before.args.n) c.before.before.right-size.ensures.0) ∙ c.if1.true))
-    (λ c. rw (sym (c.before.up_to_lem.ensures ∙ ap (λ (m : ℕ). up_to (m + 1024) c.before.before.before.args.n) c.before.before.right-size.ensures.0) ∙ c.if1.false)))
+    (λ c. rw (sym (c.up_to.ensures ∙ ap (λ (m : ℕ). up_to (m + 1024) c.args.n) c.right_size.ensures.0) ∙ c.if-up_to.true))
+    (λ c. rw (sym (c.up_to.ensures ∙ ap (λ (m : ℕ). up_to (m + 1024) c.args.n) c.right_size.ensures.0) ∙ c.if-up_to.false)))

@@ -13,8 +13,8 @@ transfer_asked_spec =
     tie.close
     (tie.spec
     (λ c κs. search rules)
-    (λ c. rw (eq-eqb _ 5 c.before.before.if1.true) c.five.ensures)
+    (λ c. rw (eq-eqb _ 5 c.if-numbers-eq5.true) c.five.ensures)
     (λ c κs. search rules)
     (λ c κs. search rules)
-    (λ c. rw (ne_eqb _ 5 c.before.before.before.if1.false, sym (c.before.minus_one.ensures ∙ ap minus_one c.before.before.only.ensures) ∙ c.if2.true))
-    (λ c. rw (ne_eqb _ 5 c.before.before.before.if1.false, sym (c.before.minus_one.ensures ∙ ap minus_one c.before.before.only.ensures) ∙ c.if2.false)))
+    (λ c. rw (ne_eqb _ 5 c.if-numbers-eq5.false, sym (c.minus_one.ensures ∙ ap minus_one c.only.ensures) ∙ c.if-minus_one.true))
+    (λ c. rw (ne_eqb _ 5 c.if-numbers-eq5.false, sym (c.minus_one.ensures ∙ ap minus_one c.only.ensures) ∙ c.if-minus_one.false)))

@@ -16,43 +16,43 @@ use Rattle.lab_lines.proofs.asking.value_asked.Statement.{statement}
 use Rattle.lab_lines.proofs.asking.value_asked.Tie as tie
 
 -- the two tests, by the definition
-is-low : (c : tie.Then1) → let n = c.before.before.before.args.n in (is_below n && leb n.size 0x8000_0000) ≡ true
-is-low c = rw c.before.before.below.ensures at c.if1.true
+is-low : (c : tie.Then-negative-n) → let n = c.args.n in (is_below n && leb n.size 0x8000_0000) ≡ true
+is-low c = rw c.below-negative.ensures at c.if-negative-n.true
 
-is-high : (c : tie.Then2) → let n = c.before.before.before.before.before.args.n in (not (is_below n) && ltb n.size 0x8000_0000) ≡ true
-is-high c = rw c.before.before.before.before.below.ensures at c.if2.true
+is-high : (c : tie.Then-negative-n-2) → let n = c.args.n in (not (is_below n) && ltb n.size 0x8000_0000) ≡ true
+is-high c = rw c.below-negative.ensures at c.if-negative-n-2.true
 
-low : (c : tie.After-struct-known2) → let n = c.before.before.before.before.args.n in (1 ≤ n.size) × (n.size ≤ 0x8000_0000)
-low c = below_size c.before.before.before.before.args.n (is-low c.before)
+low : (c : tie.After-struct_known-then-negative-n-1) → let n = c.args.n in (1 ≤ n.size) × (n.size ≤ 0x8000_0000)
+low c = below_size c.args.n (is-low c.before)
 
-high : (c : tie.After-struct-known4) → c.before.before.before.before.before.before.args.n.size < 0x8000_0000
-high c = over_size c.before.before.before.before.before.before.args.n (is-high c.before)
+high : (c : tie.After-struct_known-then-negative-n-2-1) → c.args.n.size < 0x8000_0000
+high c = over_size c.args.n (is-high c.before)
 
-returns : tie.Need-returns
+returns : tie.Need-returns-then-negative-n
 unfolding value_asked
 returns c =
-    let a = c.before.before.before.before.before.args in
-    let s = c.signed in
+    let a = c.args in
+    let s = c.signed-low in
     let h = low c.before in
     let back : to_z w32 (of_z w32 s.result) ≡ s.result = search rules in
     rw (is-low c.before.before) (ap (λ (z : ℤ). Value a.id z) (back ∙ s.ensures ∙ below_zero a.n.size h.0 h.1))
 
-returns-2 : tie.Need-returns-2
+returns-2 : tie.Need-returns-then-negative-n-2
 unfolding value_asked
 returns-2 c =
-    let e = c.before.before.before.before in
-    let b = e.before.before in
-    let a = b.before.args in
-    let s = c.signed2 in
+    let e = c.before in
+    let b = e.before in
+    let a = b.args in
+    let s = c.signed-high in
     let back : to_z w32 (of_z w32 s.result) ≡ s.result = search rules in
-    rw (rw b.below.ensures at e.if1.false, is-high c.before.before) (ap (λ (z : ℤ). Value a.id z) (back ∙ s.ensures ∙ over_zero a.n.size (high c.before)))
+    rw (rw b.below-negative.ensures at e.if-negative-n.false, is-high c.before.before) (ap (λ (z : ℤ). Value a.id z) (back ∙ s.ensures ∙ over_zero a.n.size (high c.before)))
 
-returns-3 : tie.Need-returns-3
+returns-3 : tie.Need-returns
 unfolding value_asked
 returns-3 c =
-    let e = c.before.before in
-    let b = e.before.before in
-    rw (rw b.below.ensures at e.if1.false, rw b.below.ensures at c.if2.false)
+    let e = c.before in
+    let b = e.before in
+    rw (rw b.below-negative.ensures at e.if-negative-n.false, rw b.below-negative.ensures at c.if-negative-n-2.false)
 
 pub value_asked_spec : {M : Type 1} → statement M
 value_asked_spec =

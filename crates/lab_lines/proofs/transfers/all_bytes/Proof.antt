@@ -19,4 +19,4 @@ all_bytes_spec =
     (λ c κs. search rules)
     (λ c κs. search rules)
     (λ c κs. search rules)
-    (λ c. rw (c.before.before.before.before.up_to_lem.ensures, c.before.before.before.up-to2.ensures, c.before.before.up-to3.ensures, c.before.up-to4.ensures, c.up-to5.ensures)))
+    (λ c. rw (c.up_to.ensures, c.up_to-2.ensures, c.up_to-3.ensures, c.up_to-4.ensures, c.up_to-5.ensures)))

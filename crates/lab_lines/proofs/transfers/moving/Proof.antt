@@ -9,6 +9,6 @@ unfolding moving
 moving_spec =
     tie.close
     (tie.spec
-    (λ c. rw c.if1.true)
-    (λ c. rw (c.before.if1.false, eq-eqb _ 1 c.if2.true))
-    (λ c. rw (c.before.if1.false, ne_eqb _ 1 c.if2.false)))
+    (λ c. rw c.if-reading-start.true)
+    (λ c. rw (c.if-reading-start.false, eq-eqb _ 1 c.if-reading-eq1.true))
+    (λ c. rw (c.if-reading-start.false, ne_eqb _ 1 c.if-reading-eq1.false)))

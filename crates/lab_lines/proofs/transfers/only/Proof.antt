@@ -11,5 +11,5 @@ only_spec =
     tie.close
     (tie.spec
     (λ c. search rules)
-    (λ c. rw (eq-eqb _ 1 c.before.before.if1.true))
-    (λ c. rw (ne_eqb _ 1 c.if1.false)))
+    (λ c. rw (eq-eqb _ 1 c.if-numbers-eq1.true))
+    (λ c. rw (ne_eqb _ 1 c.if-numbers-eq1.false)))

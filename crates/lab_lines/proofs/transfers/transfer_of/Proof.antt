@@ -10,11 +10,11 @@ unfolding transfer_of
 transfer_of_spec =
     tie.close
     (tie.spec
-    (λ c. rw c.if1.true)
+    (λ c. rw c.if-command-reading.true)
     (λ c κs. search rules)
-    (λ c. rw (c.before.before.if1.false, eq-eqb _ 5 c.before.if2.true) c.moving.ensures)
+    (λ c. rw (c.if-command-reading.false, eq-eqb _ 5 c.if-command-eq5.true) c.moving.ensures)
     (λ c κs. search rules)
-    (λ c. rw (c.before.before.before.if1.false, ne_eqb _ 5 c.before.before.if2.false, eq-eqb _ 6 c.before.if3.true) c.moving2.ensures)
+    (λ c. rw (c.if-command-reading.false, ne_eqb _ 5 c.if-command-eq5.false, eq-eqb _ 6 c.if-command-eq6.true) c.moving-then-command-eq6.ensures)
     (λ c κs. search rules)
-    (λ c. let e2 = c.before.before.before in rw (e2.before.if1.false, ne_eqb _ 5 e2.if2.false, ne_eqb _ 6 c.before.before.if3.false, eq-eqb _ 7 c.before.if4.true) c.moving3.ensures)
-    (λ c. let e2 = c.before.before in rw (e2.before.if1.false, ne_eqb _ 5 e2.if2.false, ne_eqb _ 6 c.before.if3.false, ne_eqb _ 7 c.if4.false)))
+    (λ c. let e2 = c.before in rw (e2.if-command-reading.false, ne_eqb _ 5 e2.if-command-eq5.false, ne_eqb _ 6 c.if-command-eq6.false, eq-eqb _ 7 c.if-command-eq7.true) c.moving-then-command-eq7.ensures)
+    (λ c. let e2 = c.before in rw (e2.if-command-reading.false, ne_eqb _ 5 e2.if-command-eq5.false, ne_eqb _ 6 c.if-command-eq6.false, ne_eqb _ 7 c.if-command-eq7.false)))

@@ -4,10 +4,9 @@ use borrow.Author.Rules.{rules}
 use mathlib.Core.Path.{refl}
 use Rattle.decimals.proofs.Behind.{renamed}
 use Rattle.airframe.specs.Sending.{heard_said}
-use Rattle.aircraft_answers.proofs.answering.tell.Statement.{statement}
-use Rattle.aircraft_answers.proofs.answering.tell.Tie as tie
+use Rattle.aircraft_answers.proofs.answering.tell.Goals as goal
 
-returns : tie.Need-returns
+pub returns : goal.returns
 unfolding heard_said
 returns c =
     record {
@@ -15,9 +14,3 @@ returns c =
       way = refl;
       count = search rules;
     }
-
-pub tell_spec : {M : Type 1} → statement M
-tell_spec = tie.close (tie.spec
-    (λ c κs. search rules)
-    (λ c. search rules)
-    returns)
