@@ -1,11 +1,12 @@
 -- Runs of stores into a list: in two parts, what they keep, and stores into a part that was lent.
 use Prim.Native.Nat.{ℕ, suc, ◌+◌, ◌-◌, ◌<◌, ◌≤◌}
 use native.Mathlib.Omega.{arith}
+use native.Mathlib.Numerals.{add-one}
 use native.Mathlib.Nat.{zero-add}
 use mathlib.Core.Path.{◌≡◌, refl, sym, ap, ◌∙◌}
 use mathlib.Core.List.{List, [], ◌∷◌, ◌++◌, append_assoc, append-nil}
 use lib.ListN.{length, get_or, take, drop, set, length-take, length-drop, drop_of_length-le, get_or-append}
-use lib.Seq.{sets, sets-eq, length-take-le, get_or-append-add, take_at, take_all, take-length, drop-drop, get_or-set_other}
+use lib.Seq.{take-suc, sets, sets-eq, length-take-le, get_or-append-add, take_at, take_all, take-length, drop-drop, get_or-set_other}
 
 -- a run of stores in two parts
 pub sets_append : (l : List ℕ) (i : ℕ) (xs ys : List ℕ) → sets l i (xs ++ ys) ≡ sets (sets l i xs) (i + length xs) ys
@@ -51,6 +52,9 @@ copied to run ys at k h e y =
     let room : 0 + length run ≤ length part = simp (length-take, length-drop) (omega arith) in
     lent to ys run at k h e (y ∙ rw (sets-eq run part 0 room, zero-add, take-length))
 
--- a run in the place of as many elements
-pub pasted : (to run : List ℕ) (at : ℕ) → at + length run ≤ length to → take at to ++ (run ++ drop (length run) (drop at to)) ≡ sets to at run
-pasted to run at h = rw (drop-drop (length run) at to) (sym (sets-eq run to at h ∙ append_assoc (take at to) run (drop (at + length run) to)))
+-- one element more of a run that is stored
+pub stored_more : (to run : List ℕ) (at i : ℕ) → i < length run
+    → set (sets to at (take i run)) (at + i) (get_or run i 0) ≡ sets to at (take (i + 1) run)
+stored_more to run at i h =
+    let long : length (take i run) ≡ i = length-take-le i run (omega arith) in
+    rw (add-one, take-suc run i 0 h) (sym (sets_append to at (take i run) (get_or run i 0 ∷ []) ∙ ap (λ (k : ℕ). set (sets to at (take i run)) (at + k) (get_or run i 0)) long))

@@ -83,5 +83,7 @@ pub fn copy(to: &mut [u8], at: usize, run: &[u8])
     requires { at + length run.now ≤ length to.old }
     ensures { to.new ≡ sets to.old at run.now }
 {
-    to[at..at + run.len()].copy_from_slice(run);
+    for i in 0..run.len() {
+        to[at + i] = run[i];
+    }
 }

@@ -1,10 +1,14 @@
--- `numbers::copy`: std's copy, into the part from `at` on that is as long as the run.
-use Rattle.std.proofs.Common.{◌≡◌, ◌+◌, ◌-◌, length, arith}
-use Rattle.numbers.proofs.Stores.{pasted}
+-- `numbers::copy`: one element more is stored, and at the end all of them.
+use Rattle.std.proofs.Common.{◌≡◌, length, take, arith, ap, ◌∙◌}
+use Rattle.std.proofs.lemmas.List.Edits.{sets}
+use lib.Seq.{take-length}
+use Rattle.numbers.proofs.Stores.{stored_more}
 use Rattle.numbers.proofs.copy.Goals as goal
+
+pub loop-i-preserved : goal.loop-i-preserved
+loop-i-preserved c = rw c.loop-i.invariant (stored_more c.args.to.now c.args.run.now c.args.at c.loop-i.i (omega arith))
 
 pub returns : goal.returns
 returns c =
-    let run = c.args.run.now in
-    let long : c.args.at + length run - c.args.at ≡ length run = omega arith in
-    rw (long, c.copy_from_slice.ensures.after) (pasted c.args.to.now run c.args.at c.requires)
+    let last : c.loop-i.i ≡ length c.args.run.now = omega arith in
+    c.loop-i.invariant ∙ rw (last, take-length)

@@ -8,4 +8,5 @@ pub fresh_pod_spec : {M : Type 1} → statement M
 unfolding fresh_pod
 fresh_pod_spec =
     tie.close (tie.spec (λ c κs. search rules) (λ c κs. search rules) (λ c κs. search rules) (λ c κs. search rules) (λ c κs. search rules)
-    (λ c κs. search rules) (λ c. cc))
+    (λ c κs. search rules)
+    (λ c. rw (c.fresh_fields.ensures, c.start.ensures, c.start_words.ensures, c.empty.ensures, c.empty-2.ensures, c.fresh.ensures)))

@@ -9,12 +9,12 @@ use Rattle.lab_calls.proofs.asking.asked.Tie as tie
 returns : tie.Need-returns
 unfolding set_of
 returns c =
-    let e = c.before.before.before.before.before.before.before.set.ensures in
-    let b = c.before.before.bare-line.ensures in (
+    let e = c.set-changed.ensures in
+    let b = c.bare_line.ensures in (
       ap (λ (x : Left). x.changed.pod) e,
-      c.before.before.before.before.before.sizes-set.ensures,
+      c.sizes_set.ensures,
       ap (λ (x : Left). x.load) e,
-      bare-written _ _ _ _ _ _ c.before.before.before.letter-of.ensures b.0 b.1,
+      bare-written _ _ _ _ _ _ c.letter_of.ensures b.0 b.1,
     )
 
 pub asked_spec : {M : Type 1} → statement M

@@ -10,7 +10,7 @@ unfolding is_own
 is_own_spec =
     tie.close
     (tie.spec
-    (λ c. own_empty c.before.before.args.text.now c.if1.true)
+    (λ c. own_empty c.args.text.now c.if-text-eq0.true)
     (λ c. search rules)
     (λ c κs. search rules)
-    (λ c. rw c.is-show.ensures))
+    (λ c. rw c.is_show.ensures))

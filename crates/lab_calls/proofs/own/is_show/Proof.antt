@@ -10,6 +10,6 @@ unfolding is_show
 is_show_spec =
     tie.close
     (tie.spec
-    (λ c. rw (ne_eqb _ 1 c.if1.true))
+    (λ c. rw (ne_eqb _ 1 c.if-text-ne1.true))
     (λ c. search rules)
-    (λ c. rw (eq-eqb _ 1 c.before.if1.false)))
+    (λ c. rw (eq-eqb _ 1 c.if-text-ne1.false)))

@@ -10,25 +10,25 @@ use Rattle.lab_calls.proofs.Told.{show_answered, asked_answered}
 use Rattle.lab_calls.proofs.own.own_line.Statement.{statement}
 use Rattle.lab_calls.proofs.own.own_line.Tie as tie
 
-show-requires : tie.Need-show-requires
+show-requires : tie.Need-show-to-requires
 show-requires c κs =
-    let a = c.before.before.before.before.before.before.before.before.before.before.before.before.before.before.before.before.args in
-    ((omega (arith, length-take 64 a.five.now), omega (arith, length-take 128 a.six.now), omega (arith, length-take 64 a.seven.now)), c.before.before.before.before.before.before.before.before.before.before.before.before.before.before.before.before.requires.1)
+    let a = c.args in
+    ((omega (arith, length-take 64 a.five.now), omega (arith, length-take 128 a.six.now), omega (arith, length-take 64 a.seven.now)), c.requires.1)
 
 pub own_line_spec : {M : Type 1} → statement M
 own_line_spec =
     tie.close
     (tie.spec
     (λ c κs. search rules)
-    (λ c. sym (length-take-le 4096 c.before.before.before.before.before.before.before.before.before.before.args.priority.now c.before.before.before.before.before.before.before.before.before.before.requires.0.0))
-    (λ c. sym (length-take-le 32768 c.before.before.before.before.before.before.before.before.before.before.before.args.ordinary.now c.before.before.before.before.before.before.before.before.before.before.before.requires.0.1))
-    (λ c. sym (length-take-le 64 c.before.before.before.before.before.before.before.before.before.before.before.before.args.five.now c.before.before.before.before.before.before.before.before.before.before.before.before.requires.0.2))
-    (λ c. sym (length-take-le 128 c.before.before.before.before.before.before.before.before.before.before.before.before.before.args.six.now c.before.before.before.before.before.before.before.before.before.before.before.before.before.requires.0.3))
-    (λ c. sym (length-take-le 64 c.before.before.before.before.before.before.before.before.before.before.before.before.before.before.args.seven.now c.before.before.before.before.before.before.before.before.before.before.before.before.before.before.requires.0.4))
+    (λ c. sym (length-take-le 4096 c.args.priority.now c.requires.0.0))
+    (λ c. sym (length-take-le 32768 c.args.ordinary.now c.requires.0.1))
+    (λ c. sym (length-take-le 64 c.args.five.now c.requires.0.2))
+    (λ c. sym (length-take-le 128 c.args.six.now c.requires.0.3))
+    (λ c. sym (length-take-le 64 c.args.seven.now c.requires.0.4))
     show-requires
     (λ c. search rules)
-    (λ c. show_answered _ _ _ _ _ _ _ _ (sym c.before.before.before.before.before.before.before.before.before.before.before.is-show.ensures ∙ c.before.before.before.before.before.before.before.before.before.before.if1.true) c.before.before.show.ensures)
+    (λ c. show_answered _ _ _ _ _ _ _ _ (sym c.is_show.ensures ∙ c.if-is_show.true) c.show-to.ensures)
     (λ c κs. search rules)
-    (λ c κs. (ap in_range c.before.before.change.ensures ∙ inside c.before.before.before.before.before.before.before.before.before.before.before.before.args.text.now, c.before.before.before.before.before.before.before.before.before.before.before.before.requires.1))
+    (λ c κs. (ap in_range c.change.ensures ∙ inside c.args.text.now, c.requires.1))
     (λ c. search rules)
-    (λ c. asked_answered _ _ _ _ _ _ _ _ _ (sym c.before.before.before.before.before.before.before.is-show.ensures ∙ c.before.before.before.before.before.before.if1.false) (rw c.before.before.before.before.before.change.ensures at c.before.before.asked.ensures)))
+    (λ c. asked_answered _ _ _ _ _ _ _ _ _ (sym c.is_show.ensures ∙ c.if-is_show.false) (rw c.change.ensures at c.asked.ensures)))
