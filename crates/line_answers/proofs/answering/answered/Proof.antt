@@ -6,13 +6,18 @@ use Rattle.line_answers.specs.Turns.{own, call}
 use Rattle.line_answers.proofs.answering.answered.Statement.{statement}
 use Rattle.line_answers.proofs.answering.answered.Tie as tie
 
-returns : tie.Need-returns
+returns : tie.Need-returns-then-own
 returns c =
-    own (sym c.before.before.before.before.before.before.before.before.before.before.before.before.before.before.before.before.before.before.own.ensures ∙ c.before.before.before.before.before.before.before.before.before.before.before.before.before.before.before.before.before.if1.true)
-    (record { answered = c.before.before.own_line.ensures; rest = refl; line = own_one _ _ _ _ })
+    own (sym c.own.ensures ∙ c.if-own.true)
+    (record { answered = c.own_line-noted.ensures; rest = refl; line = own_one _ _ _ _ })
 
-returns-2 : tie.Need-returns-2
-returns-2 c = call (sym c.before.before.before.before.before.before.before.before.before.before.before.before.own.ensures ∙ c.before.before.before.before.before.before.before.before.before.before.before.if1.false) c.called.ensures
+returns-2 : tie.Need-returns
+returns-2 c = call (sym c.own.ensures ∙ c.if-own.false) c.called.ensures
 
 pub answered_spec : {M : Type 1} → statement M
-answered_spec = tie.close (tie.spec (λ c κs. search rules) (λ c κs. search rules) returns (λ c κs. search rules) returns-2)
+answered_spec = tie.close (tie.spec
+    (λ c κs. search rules)
+    (λ c κs. search rules)
+    returns
+    (λ c κs. search rules)
+    returns-2)

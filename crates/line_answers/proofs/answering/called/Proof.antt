@@ -6,8 +6,12 @@ use Rattle.line_answers.proofs.answering.called.Tie as tie
 
 returns : tie.Need-returns
 returns c =
-    let heard = c.before.before.before.before.before.before.before.before.before.before.before.before.before.before.before.asked.ensures in
-    record { answered = rw (← heard) c.before.before.answer.ensures; sizes = rw (← heard) (c.next-sizes.ensures _ _); line = one_line _ _ }
+    let heard = c.asked-line.ensures in
+    record { answered = rw (← heard) c.answer-spoken.ensures; sizes = rw (← heard) (c.next_sizes.ensures _ _); line = one_line _ _ }
 
 pub called_spec : {M : Type 1} → statement M
-called_spec = tie.close (tie.spec (λ c κs. search rules) (λ c κs. search rules) (λ c κs. search rules) returns)
+called_spec = tie.close (tie.spec
+    (λ c κs. search rules)
+    (λ c κs. search rules)
+    (λ c κs. search rules)
+    returns)

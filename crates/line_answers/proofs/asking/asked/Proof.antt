@@ -8,28 +8,37 @@ use Rattle.line_answers.proofs.Heard.{packet_heard_lem, line-heard}
 use Rattle.line_answers.proofs.asking.asked.Statement.{statement}
 use Rattle.line_answers.proofs.asking.asked.Tie as tie
 
-returns : tie.Need-returns
+returns : tie.Need-returns-in-Session
 unfolding asking_of
 returns c =
-    let a = c.before.before.before.before.before.args in
+    let a = c.args in
     let b : length a.text.now ≤ 3 * length a.bytes.now = search rules in
-    rw (c.before.before.enum_told.given.1, c.packet-line.ensures.0, c.packet-line.ensures.1) (packet_heard_lem a.text.now a.bytes.now b a.words.now)
+    rw (c.in-Session.is, c.packet_line.ensures.0, c.packet_line.ensures.1) (packet_heard_lem a.text.now a.bytes.now b a.words.now)
 
-returns-2 : tie.Need-returns-2
+returns-2 : tie.Need-returns-in-Console
 unfolding asking_of
 returns-2 c =
-    let a = c.before.before.before.before.before.before.args in
+    let a = c.args in
     let b : length a.text.now ≤ 3 * length a.bytes.now = search rules in
     let w : length a.text.now ≤ 5 * length a.words.now = search rules in
-    rw (c.before.before.before.enum-told2.given.1, c.read-line.ensures.0, c.read-line.ensures.1.0, c.read-line.ensures.1.1) (line-heard a.text.now a.bytes.now b a.words.now w)
+    rw (c.in-Console.is, c.read_line.ensures.0, c.read_line.ensures.1.0, c.read_line.ensures.1.1) (line-heard a.text.now a.bytes.now b a.words.now w)
 
-returns-3 : tie.Need-returns-3
+returns-3 : tie.Need-returns-in-Lab
 unfolding asking_of
 returns-3 c =
-    let a = c.before.before.before.before.before.before.args in
+    let a = c.args in
     let b : length a.text.now ≤ 3 * length a.bytes.now = search rules in
     let w : length a.text.now ≤ 5 * length a.words.now = search rules in
-    rw (c.before.before.before.enum-told3.given.1, c.read-line2.ensures.0, c.read-line2.ensures.1.0, c.read-line2.ensures.1.1) (line-heard a.text.now a.bytes.now b a.words.now w)
+    rw (c.in-Lab.is, c.read_line-in-Lab.ensures.0, c.read_line-in-Lab.ensures.1.0, c.read_line-in-Lab.ensures.1.1) (line-heard a.text.now a.bytes.now b a.words.now w)
 
 pub asked_spec : {M : Type 1} → statement M
-asked_spec = tie.close (tie.spec (λ c. search rules) (λ c κs. search rules) (λ c. search rules) (λ c κs. search rules) (λ c. search rules) (λ c κs. search rules) returns returns-2 returns-3)
+asked_spec = tie.close (tie.spec
+    (λ c. search rules)
+    (λ c κs. search rules)
+    (λ c. search rules)
+    (λ c κs. search rules)
+    (λ c. search rules)
+    (λ c κs. search rules)
+    returns
+    returns-2
+    returns-3)

@@ -8,5 +8,11 @@ pub own_spec : {M : Type 1} → statement M
 unfolding own_in
 own_spec =
     tie.close
-    (tie.spec (λ c. search rules) (λ c. search rules) (λ c. search rules) (λ c κs. search rules) (λ c. rw c.enum_told.given.1)
-    (λ c. rw c.enum-told2.given.1) (λ c. rw c.before.enum-told3.given.1 c.is-own.ensures))
+    (tie.spec
+    (λ c. search rules)
+    (λ c. search rules)
+    (λ c. search rules)
+    (λ c κs. search rules)
+    (λ c. rw c.in-Session.is)
+    (λ c. rw c.in-Console.is)
+    (λ c. rw c.in-Lab.is c.is_own.ensures))
