@@ -23,9 +23,9 @@ use Rattle.packets.proofs.Laws.{nothing}
 use Rattle.tables.specs.Tables.{Three, starts}
 use Rattle.rules.specs.declared.Pod.{Pod}
 use Rattle.rules.specs.declared.Obeyed.{Obeyed}
-use Rattle.rules.specs.State.{Lent, store_in, with_stores, with_tables, ring_of, sound_pod}
+use Rattle.rules.specs.State.{Lent, store_in, with_stores, with_tables, sound_pod}
 use Rattle.rules.specs.Refusals.{bytes}
-use Rattle.rules.specs.Obey.{Meant, block, reply_said, shut, checks_of, done_by, obey_of}
+use Rattle.rules.specs.Obey.{Meant, reply_said, shut, checks_of, done_by, obey_of}
 use Rattle.rules.specs.Calls.{roomed, replied, reply_bytes, spoken_bytes, written, answered, packet_heard, packet_rows, packet_call}
 use Rattle.rules.proofs.Inside.{PodIn, in_pod, pod_in, in_shut}
 use Rattle.rules.proofs.Sound.{command_in}

@@ -1,6 +1,6 @@
 -- A part of a list, and where a number stands first in a list.
 -- Assumes nothing.
-use Rattle.std.specs.Prelude.{ℕ, zero, suc, List, [], ◌∷◌, cond, eqb, take, drop}
+use Rattle.std.specs.Prelude.{ℕ, suc, List, [], ◌∷◌, cond, eqb, take, drop}
 
 -- what stands from one place on and below another
 abbrev pub slice : ℕ → ℕ → List ℕ → List ℕ

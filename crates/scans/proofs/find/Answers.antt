@@ -1,6 +1,5 @@
 -- `scans::find`: the byte stands here, it does not, or none is left.
-use Rattle.std.proofs.Common.{◌≡◌, ◌+◌, ◌≤◌, arith}
-use Rattle.scans.specs.Scans.{index_of, slice}
+use Rattle.std.proofs.Common.{◌≡◌, arith}
 use Rattle.scans.proofs.Steps.{passed, found, ended}
 use Rattle.scans.proofs.find.Goals as goal
 

@@ -16,12 +16,22 @@ power-fresh t = ran-case (λ x. x.pod ≡ fresh_pod) (power_rows t) (λ n f. ref
 
 returns : tie.Need-returns
 returns c =
-    let w = c.before.before.before.before.before.before.before in
-    ap (λ x. x.pod) (rw w.before.before.before.before.fresh-pod.ensures at w.power-on.ensures) ∙ power-fresh _
+    let w = c.before in
+    ap (λ x. x.pod) (rw w.fresh_pod.ensures at w.power_on-called.ensures) ∙ power-fresh _
 
 pub fresh_spec : {M : Type 1} → statement M
 fresh_spec =
     tie.close
-    (tie.spec (λ c κs. search rules) (λ c. search rules) (λ c. sym (length-take-le 64 c.before.before.before.before.before.args.five.now c.before.before.before.before.before.requires.0)) (λ c. search rules)
-    (λ c. sym (length-take-le 128 c.before.before.before.before.before.before.args.six.now c.before.before.before.before.before.before.requires.1)) (λ c. search rules) (λ c. sym (length-take-le 64 c.before.before.before.before.before.before.before.args.seven.now c.before.before.before.before.before.before.before.requires.2))
-    (λ c κs. search rules) (λ c. search rules) (λ c. search rules) (λ c. search rules) returns)
+    (tie.spec
+    (λ c κs. search rules)
+    (λ c. search rules)
+    (λ c. sym (length-take-le 64 c.args.five.now c.requires.0))
+    (λ c. search rules)
+    (λ c. sym (length-take-le 128 c.args.six.now c.requires.1))
+    (λ c. search rules)
+    (λ c. sym (length-take-le 64 c.args.seven.now c.requires.2))
+    (λ c κs. search rules)
+    (λ c. search rules)
+    (λ c. search rules)
+    (λ c. search rules)
+    returns)

@@ -6,4 +6,7 @@ use Rattle.line_loop.proofs.turns.start.Tie as tie
 pub start_spec : {M : Type 1} → statement M
 start_spec =
     tie.close
-    (tie.spec (λ c κs. search rules) (λ c κs. search rules) (λ c. rw (c.before.fresh.ensures, c.right-sizes.ensures)))
+    (tie.spec
+    (λ c κs. search rules)
+    (λ c κs. search rules)
+    (λ c. rw (c.fresh-pod.ensures, c.right_sizes-sizes.ensures)))
