@@ -7,7 +7,7 @@ use mathlib.Core.Bool.{true, not}
 use mathlib.Core.List.{List, []}
 use lib.ListN.{length, take}
 use lib.Seq.{take-take}
-use Rattle.rows.specs.Rows.{First, Clear, Said, refused, gave}
+use Rattle.rows.specs.Rows.{Said, refused, gave}
 use Rattle.rows.proofs.Laws.{Gate, stops, opens, gate}
 use Rattle.packets.specs.declared.Command.{Command}
 use Rattle.packets.specs.declared.Command.TheVariants as command
@@ -21,7 +21,7 @@ use Rattle.rules.specs.declared.Pod.{Pod}
 use Rattle.rules.specs.Refusals.{Giving, done, bytes, reads}
 use Rattle.rules.specs.Obey.{checks_of}
 use Rattle.rules.specs.World.{World, packet, Told, answering, step, is_refused}
-use Rattle.rules.specs.Checks.{Answers, AnswersCommand}
+use Rattle.rules.specs.Checks.{Answers}
 use Rattle.rules.proofs.Checked.{packet_answered}
 use Rattle.items.specs.Printed.{bytes_line}
 use Rattle.lines.specs.Letters.{letter_p}

@@ -8,10 +8,10 @@ use borrow.Author.Rules.{rules}
 use Rattle.repeats.proofs.setup.fill.Statement.{statement}
 use Rattle.repeats.proofs.setup.fill.Tie as tie
 
-abbrev invariant-loop : tie.invariant-loop
+abbrev invariant-loop : tie.invariant-loop-i
 invariant-loop bytes₀ i₀ bytes i = length bytes ≡ length bytes₀
 
-abbrev decreases-loop : tie.decreases-loop
+abbrev decreases-loop : tie.decreases-loop-i
 decreases-loop bytes₀ i₀ bytes i = length bytes - i
 
 pub fill_spec : {M : Type 1} → statement M
