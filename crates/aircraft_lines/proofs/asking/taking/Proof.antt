@@ -1,5 +1,8 @@
 -- By the length: one byte, two, or neither.
-use mathlib.Core.Path.{◌∙◌}
+use native.Mathlib.Omega.{arith}
+use mathlib.Core.Path.{◌∙◌, refl}
+use lib.ListN.{take, drop}
+use Rattle.lines.specs.Asked.{one_byte}
 use Rattle.aircraft_lines.proofs.Texts.{one_form, two_form, none_form}
 use borrow.Author.Rules.{rules}
 use Rattle.aircraft_lines.proofs.asking.taking.Statement.{statement}
@@ -10,13 +13,6 @@ returns c =
     let t = c.args.line.now in
     let n = c.one_byte in
     c.taken.ensures ∙ one_form t n.result c.if-line-eq4.true n.ensures
-
-returns-2 : tie.Need-returns-then-line-eq7
-returns-2 c =
-    let t = c.args.line.now in
-    let n = c.one_byte-then-line-eq7 in
-    let m = c.one_byte-then-line-eq7-2 in
-    c.failed.ensures ∙ two_form t n.result m.result c.if-line-eq7.true n.ensures m.ensures
 
 pub taking_spec : {M : Type 1} → statement M
 taking_spec =
@@ -36,5 +32,7 @@ taking_spec =
     (λ c. search rules)
     (λ c κs. search rules)
     (λ c κs. search rules)
-    returns-2
-    (λ c. none_form c.args.line.now c.if-line-eq4.false c.if-line-eq7.false))
+    (λ c.
+    let t = c.args.line.now in
+    cc (c.failed.ensures, two_form t (one_byte (take 3 (drop 1 t))) (one_byte (take 3 (drop 4 t))) (omega arith) refl refl))
+    (λ c. none_form c.args.line.now c.if-line-eq4.false (λ z. omega (arith, z))))

@@ -1,5 +1,6 @@
 -- By how many numbers there are.
 use Prim.Native.Nat.{ℕ}
+use native.Mathlib.Omega.{arith}
 use mathlib.Core.Path.{◌≡◌, sym, ap, ◌∙◌}
 use mathlib.Core.Bool.{◌&&◌}
 use mathlib.Core.List.{List, [], ◌∷◌}
@@ -27,12 +28,6 @@ returns : tie.Need-returns-then-numbers-eq0
 returns c l e =
     let a = c.args in
     c.bare.ensures ∙ bare_says a.code l (sym (count-is a.numbers l e) ∙ c.if-numbers-eq0.true)
-
-returns-2 : tie.Need-returns-then-numbers-eq9
-returns-2 c l e =
-    let a = c.args in
-    c.nine.ensures
-    ∙ ap (line_asked a.code) (list-is a.numbers l e ∙ nine_firsts l (sym (count-is a.numbers l e) ∙ c.if-numbers-eq9.true))
 
 returns-3 : tie.Need-returns-then-numbers-code
 returns-3 c l e =
@@ -62,7 +57,7 @@ returns-5 : tie.Need-returns
 returns-5 c l e =
     let a = c.args in
     let n = count-is a.numbers l e in
-    none_says a.code l (λ z. c.if-numbers-eq0.false (n ∙ z)) (λ z. c.if-numbers-eq9.false (n ∙ z))
+    none_says a.code l (λ z. c.if-numbers-eq0.false (n ∙ z)) (λ z. omega (arith, n ∙ z))
     (ap (λ (k : ℕ). eqb k 2 && eqb a.code 0x93) (sym n) ∙ c.if-numbers-code.false)
     (ap (λ (k : ℕ). eqb k 1 && eqb a.code 0x94) (sym n) ∙ c.if-numbers-code-2.false)
 
@@ -72,7 +67,10 @@ asked_spec =
     (λ c κs. search rules)
     returns
     (λ c κs. search rules)
-    returns-2
+    (λ c l e.
+    let a = c.args in
+    c.nine.ensures
+    ∙ ap (line_asked a.code) (list-is a.numbers l e ∙ nine_firsts l (omega (arith, count-is a.numbers l e))))
     (λ c. search rules)
     (λ c. search rules)
     (λ c κs. search rules)

@@ -34,7 +34,7 @@ loop-i-preserved c =
     let text = c.pad-text.result in
     let here : spelled l.i table.result ≡ (get_or names l.i no_name).text = text_here table.result l.i table.ensures (omega arith) in
     let other : text ≡ (get_or names l.i no_name).text → ⊥ =
-        λ e. never (c.eq.ensures ∙ (bytes_decides text (spelled l.i table.result)).1 (e ∙ sym here)) c.if-eq.false in
+    λ e. never (c.eq.ensures ∙ (bytes_decides text (spelled l.i table.result)).1 (e ∙ sym here)) c.if-eq.false in
     (search rules, sym (part_past text names l.i (omega (arith, names-length)) other) ∙ l.invariant.1)
 
 pub returns : goal.returns
