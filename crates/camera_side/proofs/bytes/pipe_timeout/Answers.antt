@@ -14,6 +14,7 @@ use Rattle.rules.specs.Calls.{reach_of, reached, lone_call}
 use Rattle.gates.proofs.Fits.{pipe_fits}
 use Rattle.camera_side.proofs.bytes.pipe_timeout.Goals as goal
 
+-- the call's effect, where both halves timed out
 moved : (p : Pod) (i : Piped) (o : Output) → i ≡ pipe_timeout p.pipe.input → o ≡ output_timeout p.pipe.output
     → out (gave done) (with_pipe (record { input = i.input; output = o }) p) i.sent ≡ given (reached (lone_of (pipe timeout) (reach_of p)) p)
 unfolding lone_of pipe_of

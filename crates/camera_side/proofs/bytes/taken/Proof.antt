@@ -14,6 +14,7 @@ use borrow.Author.Rules.{rules}
 use Rattle.camera_side.proofs.bytes.taken.Statement.{statement}
 use Rattle.camera_side.proofs.bytes.taken.Tie as tie
 
+-- the call's effect, where what is handed over is what the output half gives once its byte is taken
 moved : (p : Pod) (h : Handed) → h ≡ output_taken p.pipe.output
     → out (gave done) (with_pipe (output_moved h p.pipe).pod p) h.sent ≡ given (reached (lone_of (pipe taken) (reach_of p)) p)
 unfolding lone_of pipe_of

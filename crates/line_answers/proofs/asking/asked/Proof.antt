@@ -13,7 +13,7 @@ unfolding asking_of
 returns c =
     let a = c.args in
     let b : length a.text.now ≤ 3 * length a.bytes.now = search rules in
-    rw (c.in-Session.is, c.packet_line.ensures.0, c.packet_line.ensures.1) (packet_heard_lem a.text.now a.bytes.now b a.words.now)
+    rw c.in-Session.is (cc (packet_heard_lem a.text.now a.bytes.now b a.words.now))
 
 returns-2 : tie.Need-returns-in-Console
 unfolding asking_of
@@ -21,7 +21,7 @@ returns-2 c =
     let a = c.args in
     let b : length a.text.now ≤ 3 * length a.bytes.now = search rules in
     let w : length a.text.now ≤ 5 * length a.words.now = search rules in
-    rw (c.in-Console.is, c.read_line.ensures.0, c.read_line.ensures.1.0, c.read_line.ensures.1.1) (line-heard a.text.now a.bytes.now b a.words.now w)
+    rw c.in-Console.is (cc (line-heard a.text.now a.bytes.now b a.words.now w))
 
 returns-3 : tie.Need-returns-in-Lab
 unfolding asking_of
@@ -29,7 +29,7 @@ returns-3 c =
     let a = c.args in
     let b : length a.text.now ≤ 3 * length a.bytes.now = search rules in
     let w : length a.text.now ≤ 5 * length a.words.now = search rules in
-    rw (c.in-Lab.is, c.read_line-in-Lab.ensures.0, c.read_line-in-Lab.ensures.1.0, c.read_line-in-Lab.ensures.1.1) (line-heard a.text.now a.bytes.now b a.words.now w)
+    rw c.in-Lab.is (cc (line-heard a.text.now a.bytes.now b a.words.now w))
 
 pub asked_spec : {M : Type 1} → statement M
 asked_spec = tie.close (tie.spec
