@@ -1,14 +1,14 @@
 -- `lab_shows::runs::put_values` meets its contract: what is left of the values goes behind what is written. Assumes nothing.
-use Prim.Native.Nat.{ℕ, ◌≤◌, ◌<◌, ◌-◌, ◌+◌, ◌*◌}
+use Prim.Native.Nat.{◌≤◌, ◌-◌, ◌*◌}
 use native.Mathlib.Omega.{arith}
 use borrow.Author.Rules.{rules}
-use mathlib.Core.Path.{◌≡◌, refl, sym, ap, ◌∙◌}
-use mathlib.Core.List.{List, [], ◌∷◌, ◌++◌}
-use lib.ListN.{length, take, drop, get_or}
-use lib.IntN.{ℤ, pos}
+use mathlib.Core.Path.{◌≡◌}
+use mathlib.Core.List.{[], ◌∷◌}
+use lib.ListN.{length, drop, get_or}
+use lib.IntN.{pos}
 use mir.Syntax.{w32}
 use mir.Val.{to_z, of_z}
-use Rattle.decimals.specs.Printing.{spelled, Written}
+use Rattle.decimals.specs.Printing.{spelled}
 use Rattle.decimals.proofs.Behind.{Left, none_left, one_more, whole}
 use Rattle.decimals.proofs.Spell.{values_on, values_end}
 use Rattle.lab_shows.proofs.runs.put_values.Statement.{statement}

@@ -1,13 +1,12 @@
 -- `lab_shows::runs::put_words` meets its contract: what is left of the words goes behind what is written. Assumes nothing.
-use Prim.Native.Nat.{ℕ, ◌≤◌, ◌<◌, ◌-◌, ◌+◌, ◌*◌}
+use Prim.Native.Nat.{ℕ, ◌≤◌, ◌-◌, ◌*◌}
 use native.Mathlib.Omega.{arith}
 use borrow.Author.Rules.{rules}
-use mathlib.Core.Path.{◌≡◌, refl, sym, ap, ◌∙◌}
-use mathlib.Core.List.{List, [], ◌∷◌, ◌++◌}
-use lib.ListN.{length, take, drop, get_or}
+use mathlib.Core.Path.{◌≡◌, ap, ◌∙◌}
+use mathlib.Core.List.{List, [], ◌∷◌}
+use lib.ListN.{length, drop, get_or}
 use lib.Seq.{sets}
 use Rattle.hexes.specs.Digits.{word_digits}
-use Rattle.decimals.specs.Printing.{Written}
 use Rattle.lab_shows.specs.Shown.{spelled_words}
 use Rattle.decimals.proofs.Behind.{Left, none_left, one_more, whole, appended}
 use Rattle.lab_shows.proofs.Spell.{words_on, words_end}

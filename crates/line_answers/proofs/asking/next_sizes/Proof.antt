@@ -3,6 +3,7 @@ use Prim.Native.Nat.{ℕ}
 use mathlib.Core.Path.{◌≡◌, refl, sym, ◌∙◌}
 use mathlib.Core.List.{List}
 use borrow.Author.Rules.{rules}
+use Rattle.lines.specs.declared.Line.{Line}
 use Rattle.lines.specs.declared.Line.TheVariants.{Other}
 use Rattle.line_calls.specs.declared.Sizes.{Sizes}
 use Rattle.line_calls.specs.Calls.{heard_line, call_of}
@@ -11,9 +12,9 @@ use Rattle.line_answers.proofs.Sized.{sizes_again}
 use Rattle.line_answers.proofs.asking.next_sizes.Statement.{statement}
 use Rattle.line_answers.proofs.asking.next_sizes.Tie as tie
 
-kept : (s : Sizes) (bs ws : List ℕ) → sizes_after (heard_line Other bs ws) s ≡ s
+kept : (l : Line) (s : Sizes) (bs ws : List ℕ) → l ≡ Other → s ≡ sizes_after (heard_line l bs ws) s
 unfolding sizes_after heard_line call_of
-kept s bs ws = refl
+kept l s bs ws e = rw e refl
 
 again : tie.Need-returns-in_default
 again c = λ bs ws. c.right_sizes.ensures ∙ sym (sizes_again _ _ bs ws c.in_default.in_default-own.keys2)
@@ -22,5 +23,5 @@ pub next_sizes_spec : {M : Type 1} → statement M
 next_sizes_spec = tie.close (tie.spec
     (λ c. search rules)
     (λ c κs. search rules)
-    (λ c bs ws. cc (kept c.args.sizes bs ws))
+    (λ c bs ws. kept c.args.line c.args.sizes bs ws (search rules))
     again)
