@@ -34,7 +34,7 @@ EDITS = (
     (SIGN, SIGN.replace(" -> u32", ""), 0),
     (SIGN + "\n", SIGN + "\n    requires { 1 < length bytes.now }\n", 0),
     (SIGN + "\n    ensures", SIGN + "\n    decreases", 0),
-    ("{\n    crc::crc_of(bytes)", "    requires { 1 < length bytes.now }\n{\n    crc::crc_of(bytes)", -2),
+    ("{\n    u32::from(crc::crc_of(bytes))", "    requires { 1 < length bytes.now }\n{\n    u32::from(crc::crc_of(bytes))", -2),
     ("mod building;", "pub mod building;", 0),
     ("= 25;", "= 5 * 5;", 0),
     ("= 25;", "= 32768;", 0),

@@ -16,8 +16,8 @@ GOOD = {"mode": 1, "flags": 3, "seconds": 22320, "milliseconds": 250, "priority 
         "memory limit": 100, "memory remaining": 2, "poll": 1000}
 TYPES = {"u8": (0, 255), "u16": (0, 65535), "u32": (0, 4294967295), "i32": (-2147483648, 2147483647)}
 NUMBERS = {0x90: " 1 3 22320 250 4 4 100 2 1000", 0x92: " 1 3 22320 250 4 4 100 2 1000", 0x93: " 3 500", 0x94: " 3"}
-# the meanings of the library, by the word of the program
-WORDS = {"Unusable": "!23", "Done": "done", "Error": "error", "State": "status", "Value": "value", "Block": "data"}
+# the meanings of the library, and the refusal in place of one, by the word of the program
+WORDS = {"Wrong": "!23", "Done": "done", "Error": "error", "State": "status", "Value": "value", "Block": "data"}
 # the numbers that stand alone, each in a line
 FORMS = {("Q 93", "id"): "Q 93 %d 1", ("Q 94", "id"): "Q 94 %d", ("Y", "code"): "Y %02X", ("Y", "error"): "Y 95 %02X"}
 TALK = ("Program", "Line", "Prints", "Why")

@@ -32,7 +32,7 @@ class Library(Part):
             table.rows[0].fault("the functions of %s are %s" % (SOURCE, ", ".join(sorted(found))))
         for row in table:
             takes, gives = found[plain(row[0])]
-            refuses = {"Built": "20, 24", "Meaning": "23"}.get(gives, "23" if gives == "Heard" and "&[u8]" in takes else "none")
+            refuses = {"Result<usize, Refusal>": "20, 24", "Result<Meaning, Refusal>": "23"}.get(gives, "23" if gives == "Heard" and "&[u8]" in takes else "none")
             if plain(row[1]) != takes or not row[2].startswith("`%s`: " % gives) or row[3] != refuses:
                 row.fault("it takes %s, gives %s and refuses by %s" % (takes, gives, refuses))
         text = (ROOT / table.page).read_text()

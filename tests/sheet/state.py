@@ -40,9 +40,9 @@ def borrowed(function):
     """What a function of the pod is lent, by its own head in the code: each thing that it takes by reference."""
     head = re.compile(r"^pub fn %s(?:<[^>]*>)?\(([^)]*)\)" % function, re.M)
     found = [match[1] for path in sorted(ROOT.glob("crates/*/src/*.rt")) for match in head.finditer(path.read_text())
-             if "pod: Pod" in match[1]]
+             if re.search(r"\bpod: &(?:mut )?Pod\b", match[1])]
     taken = [name for head in found[:1] for name in re.findall(r"(\w+): &", head)]
-    return ", ".join(dict.fromkeys(THINGS[name] for name in taken if name != "bytes")) or "nothing"
+    return ", ".join(dict.fromkeys(THINGS[name] for name in taken if name not in ("pod", "bytes"))) or "nothing"
 
 
 class State(Part):

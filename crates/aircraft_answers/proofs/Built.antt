@@ -14,8 +14,7 @@ use Rattle.numbers.proofs.Stores.{sets_taken}
 use Rattle.packets.specs.declared.Command.{Command}
 use Rattle.packets.specs.Commands.{command_row}
 use Rattle.packets.specs.Answers.{with_crc, answer_of, command_bytes}
-use Rattle.airframe.specs.declared.Built.{Built}
-use Rattle.airframe.specs.declared.Built.TheVariants.{Bytes, Refused}
+use Rattle.std.specs.Prelude.{Result, Ok, Err}
 use Rattle.airframe.specs.declared.Refusal.{Refusal}
 use Rattle.airframe.specs.Building.{build_of, refusal_number, built_said}
 
@@ -37,8 +36,8 @@ module _ (inside : Bool) (bytes room : List ℕ) (size : length room ≡ 25) whe
   unfolding build_of ran
   kept e = rw e
 
-  module _ (r : Built) (room' : List ℕ) (b : out (built_said r) tt room' ≡ build_of inside bytes room) where
-    pub put : (n : ℕ) → length bytes ≤ 25 → r ≡ Bytes n → Put inside bytes room' n
+  module _ (r : Result ℕ Refusal) (room' : List ℕ) (b : out (built_said r) tt room' ≡ build_of inside bytes room) where
+    pub put : (n : ℕ) → length bytes ≤ 25 → r ≡ Ok n → Put inside bytes room' n
     unfolding built_said
     put n few e =
         split inside
@@ -51,7 +50,7 @@ module _ (inside : Bool) (bytes room : List ℕ) (size : length room ≡ 25) whe
         let said : gave n ≡ refused 20 = sym (ap built_said e) ∙ ap (λ (o : Outcome). o.said) (b ∙ kept f) in
         absurd (gave_not said))
 
-    pub not_put : (x : Refusal) → r ≡ Refused x → inside ≡ false
+    pub not_put : (x : Refusal) → r ≡ Err x → inside ≡ false
     unfolding built_said
     not_put x e =
         split inside

@@ -5,7 +5,7 @@ use native.Mathlib.Omega.{arith}
 use mathlib.Core.Path.{◌≡◌}
 use mathlib.Core.Bool.{◌&&◌}
 use mathlib.Core.List.{List, [], ◌∷◌, ◌++◌, append_assoc, map}
-use mathlib.Core.Option.{Option, none, some}
+use Rattle.std.specs.Prelude.{Option, Some, None}
 use lib.IntN.{pos}
 use lib.ListN.{length}
 use Rattle.rows.specs.Rows.{Said, refused, gave}
@@ -40,8 +40,8 @@ meant_inked (gave (value id v)) = inked_both (characters " value") (spelled (pos
 meant_inked (gave (block b)) = inked_both (characters " data") (spell b) (omega arith) (spell_inked b)
 
 read_inked : (m : Option (Said Meant)) → Inked (read_text m)
-read_inked none = tt
-read_inked (some m) = meant_inked m
+read_inked None = tt
+read_inked (Some m) = meant_inked m
 
 step_inked : (s : Step) → Inked (step_text s)
 step_inked Idle = omega arith

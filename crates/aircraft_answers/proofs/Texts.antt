@@ -1,21 +1,19 @@
 -- The words of the lines, put together from the runs that are written.
 -- Assumes nothing.
-use Prim.Native.Nat.{ℕ, ◌+◌, ◌*◌, ◌≤◌}
+use Prim.Native.Nat.{ℕ, ◌≤◌}
 use native.Mathlib.Omega.{arith}
 use mathlib.Core.Path.{◌≡◌, refl, sym, ap}
 use mathlib.Core.List.{List, [], ◌∷◌, ◌++◌}
 use lib.IntN.{ℤ, pos}
 use lib.ListN.{length, drop, length-take}
-use lib.Seq.{sets}
-use Rattle.rows.specs.Rows.{refused, gave}
+use Rattle.rows.specs.Rows.{gave}
 use Rattle.items.specs.Text.{spell}
-use Rattle.items.specs.Printed.{digits_of, decimal}
-use Rattle.items.proofs.Spelled.{spell-length}
-use Rattle.decimals.specs.Printing.{spelled, naturals, Written}
-use Rattle.decimals.proofs.Behind.{appended}
+use Rattle.items.specs.declared.output.Output.{Output}
+use Rattle.items.specs.Output.{Written}
+use Rattle.decimals.specs.Printing.{spelled, naturals}
 use Rattle.decimals.proofs.Spell.{spelled-both}
 use Rattle.packets.specs.declared.Report.{Report}
-use Rattle.airframe.specs.Reading.{done, failed, status, value, block, block_in, ids_in}
+use Rattle.airframe.specs.Reading.{failed, status, value, block, block_in, ids_in}
 use Rattle.aircraft_answers.specs.Words.{characters, meant_text}
 
 -- an answer shows at most eight ids, and brings at most a block
@@ -28,20 +26,8 @@ unfolding block_in
 one_block a = omega (arith, length-take 256 (drop 2 a))
 
 -- nothing written
-pub unwritten : (m at : ℕ) (o : List ℕ) → Written [] m at at o o
-unwritten m at o = record { characters = refl; place = omega arith; short = omega arith }
-
--- bytes written behind one another
-pub listed : (bs : List ℕ) (at to : ℕ) (o o' : List ℕ) → to ≡ at + 3 * length bs → o' ≡ sets o at (spell bs) → Written (spell bs) (3 * length bs) at to o o'
-listed bs at to o o' p c = appended (spell bs) (3 * length bs) at to o o' (omega (arith, p, spell-length bs)) c (omega (arith, spell-length bs))
-
-pub wrong_text : meant_text (refused 23) ≡ 32 ∷ 33 ∷ 50 ∷ 51 ∷ []
-unfolding meant_text decimal digits_of
-wrong_text = refl
-
-pub done_text : meant_text (gave done) ≡ 32 ∷ 100 ∷ 111 ∷ 110 ∷ 101 ∷ []
-unfolding meant_text
-done_text = refl
+pub unwritten : {N : ℕ} (m : ℕ) (o : Output N) → Written [] m o o
+unwritten m o = record { characters = refl; place = omega arith; short = omega arith }
 
 pub error_text : (e : ℕ) → characters " error" ++ spell (e ∷ []) ≡ meant_text (gave (failed e))
 unfolding meant_text

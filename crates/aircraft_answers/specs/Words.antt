@@ -1,9 +1,8 @@
 -- The words of the lines that begin with `R`: what an answer means, and what is next.
 -- Assumes nothing.
-use Rattle.std.specs.Prelude.{ℕ, List, [], ◌∷◌, ◌++◌, map, pos}
+use Rattle.std.specs.Prelude.{ℕ, List, [], ◌∷◌, ◌++◌, map, pos, Option, Some, None}
 use Prim.Native.String.{String, [] as none, ◌∷◌ as ◌then◌}
 use Prim.Native.Char.{code}
-use Rattle.std.proofs.Math.Option.{Option, none as nothing, some}
 use Rattle.rows.specs.Rows.{Said, refused, gave}
 use Rattle.packets.specs.declared.Report.{Report}
 use Rattle.items.specs.Characters.{space, bang, dash, newline}
@@ -36,8 +35,8 @@ meant_text (gave (block b)) = characters " data" ++ spell b
 
 -- nothing where no answer was read
 abbrev pub read_text : Option (Said Meant) → List ℕ
-read_text nothing = []
-read_text (some m) = meant_text m
+read_text None = []
+read_text (Some m) = meant_text m
 
 -- "`R again`, `R lost`"; "`R -` with nothing on its way"
 abbrev pub step_text : Step → List ℕ

@@ -1,117 +1,91 @@
 // A line's answer.
-ghost use Rattle.std.specs.Prelude.{◌≡◌, ◌+◌, ◌≤◌, length};
+ghost use Rattle.std.specs.Prelude.{◌+◌, ◌≤◌, Option};
+ghost use Rattle.items.specs.Output.{Written};
 ghost use Rattle.airframe.specs.Building.{command_fits};
 ghost use Rattle.airframe.specs.Sending.{heard_said};
 ghost use Rattle.aircraft_lines.specs.Asked.{Ask, takes, again};
-ghost use Rattle.aircraft_answers.specs.Spoken.{sent_if, spoken_of, heard};
+ghost use Rattle.aircraft_answers.specs.Spoken.{Way, sent_if, spoken_of, heard};
 ghost use Rattle.aircraft_answers.specs.Promise.{way_in, Says, Spoke};
 
+use crate::Underway;
 use crate::outcomes::put_outcome;
-use crate::{Answered, Underway};
 use aircraft_lines::Line;
-use airframe::{Built, Form, Heard, Sending, acknowledge, build};
-use items::{append, bare_line, bytes_line, front, refused_line};
+use airframe::{Form, Heard, Refusal, Sending, acknowledge, build};
+use items::{Output, front};
 use packets::Command;
 
-// A line that changes nothing.
-fn stay(way: Underway, at: usize) -> Answered
-    ensures { (result.underway ≡ way) × (result.at ≡ at) }
-{
-    Answered { underway: way, at }
-}
-
 // A command is built, and put on its way.
-fn send(command: Command, way: Underway, out: &mut [u8], at: usize) -> Answered
-    requires count_bound { way.count ≤ 25 }
-    requires at_in_bounds { at + 800 ≤ length out.old }
-    ensures { Spoke (sent_if (command_fits command) command (way_in way)) result at out.old out.new }
+fn send<const N: usize>(command: Command, way: &mut Underway, out: &mut Output<N>)
+    requires { out.old.at + 800 ≤ N }
+    ensures { Spoke (sent_if (command_fits command) command (way_in way.old)) way.new out.old out.new }
 {
     let mut room = [0u8; 25];
     match build(command, &mut room) {
-        Built::Bytes(n) => {
-            let to = bytes_line(out, at, b'P', front(&room, n));
-            let sending = Sending::sent(room[0]);
-            let next = Underway {
-                sending,
+        Ok(count) => {
+            out.bytes_line(b'P', front(&room, count));
+            *way = Underway {
+                sending: Sending::sent(room[0]),
                 room,
-                count: n,
+                count,
             };
-            Answered {
-                underway: next,
-                at: to,
-            }
         }
-        Built::Refused(_) => stay(way, refused_line(out, at, b'Q', 20)),
+        Err(_) => out.refused_line(b'Q', u8::from(Refusal::Field)),
     }
 }
 
-// An acknowledgement is built, and printed alone.
-fn take(first: u8, form: Form, way: Underway, out: &mut [u8], at: usize) -> Answered
-    requires count_bound { way.count ≤ 25 }
-    requires at_in_bounds { at + 800 ≤ length out.old }
-    ensures { Spoke (spoken_of (takes first form) (way_in way)) result at out.old out.new }
+// An acknowledgement is built, and printed alone: nothing changes on its way.
+fn take<const N: usize>(first: u8, form: Form, out: &mut Output<N>)
+    requires { out.old.at + 800 ≤ N }
+    ensures { (w : Way) → Written (spoken_of (takes first form) w).text 800 out.old out.new }
 {
     let mut room = [0u8; 25];
     match acknowledge(first, form, &mut room) {
-        Built::Bytes(n) => stay(way, bytes_line(out, at, b'P', front(&room, n))),
-        Built::Refused(_) => stay(way, refused_line(out, at, b'Y', 20)),
+        Ok(n) => out.bytes_line(b'P', front(&room, n)),
+        Err(_) => out.refused_line(b'Y', u8::from(Refusal::Field)),
     }
 }
 
 // What came of an answer, or of none.
-fn tell(came: Heard, answer: &[u8], way: Underway, out: &mut [u8], at: usize) -> Answered
-    requires count_bound { way.count ≤ 25 }
-    requires at_in_bounds { at + 800 ≤ length out.old }
-    ensures { Spoke (heard (heard_said came answer.now) (way_in way)) result at out.old out.new }
+// The answer stands beside what came of it, as `heard_said` has the two.
+fn tell<const N: usize>(came: Heard, answer: &[u8], way: &mut Underway, out: &mut Output<N>)
+    requires { out.old.at + 800 ≤ N }
+    ensures { Spoke (heard (heard_said came answer.now) (way_in way.old)) way.new out.old out.new }
 {
-    let to = put_outcome(out, at, came, answer);
-    let sending = came.sending;
-    let room = way.room;
-    let next = Underway {
-        sending,
-        room,
-        count: way.count,
-    };
-    Answered {
-        underway: next,
-        at: to,
-    }
+    put_outcome(out, came, answer);
+    way.sending = came.sending;
 }
 
 // What is on its way is printed again.
-fn again(way: Underway, out: &mut [u8], at: usize) -> Answered
-    requires count_bound { way.count ≤ 25 }
-    requires at_in_bounds { at + 800 ≤ length out.old }
-    ensures { Spoke (spoken_of again (way_in way)) result at out.old out.new }
+fn again<const N: usize>(way: &Underway, out: &mut Output<N>)
+    requires { out.old.at + 800 ≤ N }
+    ensures { Written (spoken_of again (way_in way.now)).text 800 out.old out.new }
 {
-    let sending = way.sending;
-    let room = way.room;
-    match sending {
-        Sending::Over => stay(way, append(out, at, b"N -\n")),
-        Sending::Awaiting(_, _) => stay(way, bytes_line(out, at, b'P', front(&room, way.count))),
+    match way.sending {
+        Sending::Over => out.append(b"N -\n"),
+        Sending::Awaiting(_, _) => out.bytes_line(b'P', front(&way.room, way.count)),
     }
 }
 
-// What a line asks is answered.
-pub fn answer(line: Line, way: Underway, bytes: &[u8], out: &mut [u8], at: usize) -> Answered
-    requires count_bound { way.count ≤ 25 }
-    requires at_in_bounds { at + 800 ≤ length out.old }
-    ensures { (a : Ask) → Says a line bytes.now → Spoke (spoken_of a (way_in way)) result at out.old out.new }
+// What a line asks is answered; none is any other line.
+pub fn answer<const N: usize>(
+    line: Option<Line>,
+    way: &mut Underway,
+    bytes: &[u8],
+    out: &mut Output<N>,
+)
+    requires { out.old.at + 800 ≤ N }
+    ensures { (a : Ask) → Says a line bytes.now → Spoke (spoken_of a (way_in way.old)) way.new out.old out.new }
 {
     match line {
-        Line::Send(command) => send(command, way, out, at),
-        Line::Outside => stay(way, refused_line(out, at, b'Q', 20)),
-        Line::Take(first, form) => take(first, form, way, out, at),
-        Line::Hear(n) => {
-            let sending = way.sending;
+        Some(Line::Send(command)) => send(command, way, out),
+        Some(Line::Outside) => out.refused_line(b'Q', u8::from(Refusal::Field)),
+        Some(Line::Take(first, form)) => take(first, form, out),
+        Some(Line::Hear(n)) => {
             let heard = front(bytes, n);
-            tell(sending.reply(heard), heard, way, out, at)
+            tell(way.sending.reply(heard), heard, way, out);
         }
-        Line::Wait => {
-            let sending = way.sending;
-            tell(sending.silence(), bytes, way, out, at)
-        }
-        Line::Again => again(way, out, at),
-        Line::Other => stay(way, bare_line(out, at, b'?')),
+        Some(Line::Wait) => tell(way.sending.silence(), bytes, way, out),
+        Some(Line::Again) => again(way, out),
+        None => out.bare_line(b'?'),
     }
 }

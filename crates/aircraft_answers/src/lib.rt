@@ -1,6 +1,8 @@
 // What a line of the program aircraft is answered, and what is on its way after it.
 #![tactic(auto)]
 
+ghost use Rattle.std.specs.Prelude.{◌≤◌};
+
 mod answering;
 mod meanings;
 mod outcomes;
@@ -8,17 +10,11 @@ mod outcomes;
 use airframe::Sending;
 pub use answering::answer;
 
-// What is on its way: how often it may still be sent, and its bytes, so many from the start of the room.
+// What is on its way: how often it may still be sent, and its bytes, so many from the start of the room. The room is fixed memory.
 #[derive(Clone, Copy)]
 pub struct Underway {
     pub sending: Sending,
     pub room: [u8; 25],
     pub count: usize,
-}
-
-// What is on its way after a line, and the output's place behind the line's answer.
-#[derive(Clone, Copy)]
-pub struct Answered {
-    pub underway: Underway,
-    pub at: usize,
+    ghost fits: { count ≤ 25 },
 }

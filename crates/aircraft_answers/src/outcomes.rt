@@ -1,43 +1,48 @@
 // The lines that begin with `R`: what an answer means, and what is next.
-ghost use Rattle.std.specs.Prelude.{◌+◌, ◌≤◌, length};
-ghost use Rattle.decimals.specs.Printing.{Written};
+ghost use Rattle.std.specs.Prelude.{◌+◌, ◌≤◌};
+ghost use Rattle.items.specs.Output.{Written};
 ghost use Rattle.airframe.specs.Sending.{reply_said, heard_said};
 ghost use Rattle.aircraft_answers.specs.Words.{read_text, step_text, outcome_text};
 
 use crate::meanings::put_meaning;
-use airframe::{Heard, Reply, Step};
-use items::append;
+use airframe::{Heard, Meaning, Refusal, Step};
+use items::Output;
 
-fn put_reply(out: &mut [u8], at: usize, reply: Reply, answer: &[u8]) -> usize
-    requires { at + 773 ≤ length out.old }
-    ensures { Written (read_text (reply_said reply answer.now)) 773 at result out.old out.new }
+// The answer stands beside what it was read as, here and below, as `reply_said` and `heard_said` have the two.
+#[tactic(auto, using(crate::proofs::Texts::unwritten))]
+fn put_reply<const N: usize>(
+    out: &mut Output<N>,
+    reply: Option<Result<Meaning, Refusal>>,
+    answer: &[u8],
+)
+    requires { out.old.at + 773 ≤ N }
+    ensures { Written (read_text (reply_said reply answer.now)) 773 out.old out.new }
 {
     match reply {
-        Reply::Unread => at,
-        Reply::Answer(meaning) => put_meaning(out, at, meaning, answer),
+        None => {}
+        Some(read) => put_meaning(out, read, answer),
     }
 }
 
-fn put_step(out: &mut [u8], at: usize, step: Step) -> usize
-    requires { at + 6 ≤ length out.old }
-    ensures { Written (step_text step) 6 at result out.old out.new }
+#[tactic(auto, using(crate::proofs::Texts::unwritten))]
+fn put_step<const N: usize>(out: &mut Output<N>, step: Step)
+    requires { out.old.at + 6 ≤ N }
+    ensures { Written (step_text step) 6 out.old out.new }
 {
     match step {
-        Step::Idle => append(out, at, b" -"),
-        Step::Ended => at,
-        Step::Again => append(out, at, b" again"),
-        Step::Lost => append(out, at, b" lost"),
+        Step::Idle => out.append(b" -"),
+        Step::Ended => {}
+        Step::Again => out.append(b" again"),
+        Step::Lost => out.append(b" lost"),
     }
 }
 
-pub fn put_outcome(out: &mut [u8], at: usize, heard: Heard, answer: &[u8]) -> usize
-    requires { at + 781 ≤ length out.old }
-    ensures { Written (outcome_text (heard_said heard answer.now)) 781 at result out.old out.new }
+pub fn put_outcome<const N: usize>(out: &mut Output<N>, heard: Heard, answer: &[u8])
+    requires { out.old.at + 781 ≤ N }
+    ensures { Written (outcome_text (heard_said heard answer.now)) 781 out.old out.new }
 {
-    let reply = heard.reply;
-    let step = heard.step;
-    let first = append(out, at, b"R");
-    let read = put_reply(out, first, reply, answer);
-    let last = put_step(out, read, step);
-    append(out, last, b"\n")
+    out.append(b"R");
+    put_reply(out, heard.reply, answer);
+    put_step(out, heard.step);
+    out.append(b"\n");
 }

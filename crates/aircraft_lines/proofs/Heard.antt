@@ -5,17 +5,18 @@ use native.Mathlib.Omega.{arith}
 use mathlib.Core.Path.{◌≡◌, refl}
 use mathlib.Core.Bool.{◌&&◌}
 use mathlib.Core.List.{List, [], ◌∷◌}
-use lib.Dec.{ltb, eqb}
+use lib.Dec.{eqb}
 use lib.ListN.{length, take, drop, get_or, length-drop}
 use lib.Seq.{sets}
 use Rattle.rows.proofs.Bool.{split, by-test}
 use Rattle.items.specs.Text.{bytes_in}
+use Rattle.std.specs.Prelude.{Option, Some, None}
 use Rattle.decimals.specs.declared.Number.{Number}
 use Rattle.decimals.specs.Reading.{numbers_in}
 use Rattle.lines.specs.Asked.{one_byte}
 use Rattle.lines.proofs.Stored.{stored, bytes_most}
 use Rattle.aircraft_lines.specs.Letters.{letter_q, letter_y, letter_p, letter_n}
-use Rattle.aircraft_lines.specs.Asked.{Ask, number_at, is_plain, is_value, all_plain, is_spaced, bare_asked, command_asked, query_in, form_asked, is_silence, taking_in, answer_in, ask_in, heard_bytes, answer_bytes, bytes_left}
+use Rattle.aircraft_lines.specs.Asked.{Ask, number_at, is_plain, is_value, all_plain, is_spaced, bare_asked, command_asked, query_of, query_in, form_asked, is_silence, taking_in, answer_in, ask_in, heard_bytes, answer_bytes, bytes_left}
 
 -- nothing is heard of a line of another letter
 abbrev Unheard : Ask → Type 0
@@ -29,7 +30,7 @@ bare_unheard code =
     (λ _. by-test Unheard (eqb code 0x96) (λ _. refl)
     (λ _. by-test Unheard (eqb code 0x9F) (λ _. refl) (λ _. refl))))
 
-command_unheard : (code : ℕ) (l : List Number) → Unheard (command_asked code l)
+command_unheard : (code : ℕ) (l : List (Option Number)) → Unheard (command_asked code l)
 unfolding command_asked heard_bytes
 command_unheard code l =
     by-test Unheard (eqb (length l) 0) (λ _. bare_unheard code)
@@ -38,11 +39,14 @@ command_unheard code l =
     (λ _. by-test Unheard (eqb code 0x93 && (eqb (length l) 2 && (is_plain (number_at l 0) && is_value (number_at l 1)))) (λ _. refl)
     (λ _. by-test Unheard (eqb code 0x94 && (eqb (length l) 1 && is_plain (number_at l 0))) (λ _. refl) (λ _. refl)))))
 
+query_of_unheard : (o : Option ℕ) (t : List ℕ) → Unheard (query_of o t)
+unfolding query_of heard_bytes
+query_of_unheard None t = refl
+query_of_unheard (Some code) t = by-test Unheard (is_spaced t) (λ _. command_unheard code (numbers_in (drop 4 t))) (λ _. refl)
+
 query_unheard : (t : List ℕ) → Unheard (query_in t)
-unfolding query_in heard_bytes
-query_unheard t =
-    by-test Unheard (ltb (one_byte (take 3 (drop 1 t))) 256 && is_spaced t)
-    (λ _. command_unheard (one_byte (take 3 (drop 1 t))) (numbers_in (drop 4 t))) (λ _. refl)
+unfolding query_in
+query_unheard t = query_of_unheard (one_byte (take 3 (drop 1 t))) t
 
 form_unheard : (vs : List ℕ) → Unheard (form_asked vs)
 unfolding heard_bytes

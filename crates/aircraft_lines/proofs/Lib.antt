@@ -1,4 +1,3 @@
-pub mod Bits
 pub mod Numbered
 pub mod Said
 pub mod Texts

@@ -1,20 +1,16 @@
 -- What a line of the program aircraft asks. Form is judged before fields: the numbers here may be of any size.
 -- Assumes nothing.
-use Rattle.std.specs.Prelude.{ℕ, Bool, true, false, not, ◌&&◌, ◌||◌, cond, List, [], ◌∷◌, ltb, eqb, ℤ, pos, neg_ℤ, length, take, drop, get_or}
+use Rattle.std.specs.Prelude.{ℕ, Bool, true, false, not, ◌&&◌, ◌||◌, cond, List, [], ◌∷◌, eqb, ℤ, pos, neg_ℤ, length, take, drop, get_or, Option, Some, None}
 use Rattle.packets.specs.declared.Fields.{Fields}
 use Rattle.packets.specs.declared.Command.{Command}
 use Rattle.packets.specs.declared.Command.TheVariants.{Initialise, Status, Update, Write, Read, Priority, Data, Shutdown}
 use Rattle.airframe.specs.declared.Form.{Form}
 use Rattle.airframe.specs.declared.Form.TheVariants.{Taken, Failed}
-use Rattle.airframe.specs.declared.Given.{Given}
-use Rattle.airframe.specs.declared.Given.TheVariants.{Inside, Outside}
 use Rattle.airframe.specs.Given.{fields_nine, command_typed}
 use Rattle.items.specs.Characters.{space, dash}
-use Rattle.items.specs.declared.Items.{Items}
-use Rattle.items.specs.declared.Items.TheVariants.{Good, Bad}
 use Rattle.items.specs.Text.{ItemsRead, bytes_in}
 use Rattle.decimals.specs.declared.Number.{Number}
-use Rattle.decimals.specs.Reading.{no_number, number, numbers_in}
+use Rattle.decimals.specs.Reading.{numbers_in}
 use Rattle.lines.specs.Asked.{one_byte}
 use Rattle.aircraft_lines.specs.Letters.{letter_q, letter_y, letter_p, letter_n}
 use Rattle.aircraft_lines.specs.declared.Line.{Line}
@@ -37,31 +33,41 @@ pub data Ask : Type 0 where
 -- ---- Q
 
 -- the number at a place
-abbrev pub number_at : List Number → ℕ → Number
-number_at l i = get_or l i (number false 0)
+abbrev pub number_at : List (Option Number) → ℕ → Option Number
+number_at l i = get_or l i None
 
 -- "decimal, 1 to 10 digits without a sign"
-abbrev pub is_plain : Number → Bool
-is_plain n = not n.minus && ltb n.size no_number
+abbrev pub is_plain : Option Number → Bool
+is_plain None = false
+is_plain (Some n) = not n.minus
 
-unfoldable pub all_plain : List Number → Bool
+unfoldable pub all_plain : List (Option Number) → Bool
 all_plain [] = true
 all_plain (n ∷ ns) = is_plain n && all_plain ns
 
+abbrev pub size_of : Option Number → ℕ
+size_of None = 0
+size_of (Some n) = n.size
+
 -- "a value may have a leading `-`"; "`-0` is 0"
-abbrev pub is_value : Number → Bool
-is_value n = ltb n.size no_number
+abbrev pub is_value : Option Number → Bool
+is_value None = false
+is_value (Some n) = true
 
 abbrev pub value_of : Number → ℤ
 value_of n = cond n.minus (neg_ℤ (pos n.size)) (pos n.size)
 
--- "mode flags seconds milliseconds, priority limit and remaining, memory limit and remaining, poll"
-abbrev pub sizes_in : List Number → List ℕ
-sizes_in l =
-    (number_at l 0).size ∷ (number_at l 1).size ∷ (number_at l 2).size ∷ (number_at l 3).size ∷ (number_at l 4).size ∷ (number_at l 5).size
-    ∷ (number_at l 6).size ∷ (number_at l 7).size ∷ (number_at l 8).size ∷ []
+abbrev pub value_at : Option Number → ℤ
+value_at None = pos 0
+value_at (Some n) = value_of n
 
-abbrev pub fields_asked : List Number → Fields
+-- "mode flags seconds milliseconds, priority limit and remaining, memory limit and remaining, poll"
+abbrev pub sizes_in : List (Option Number) → List ℕ
+sizes_in l =
+    size_of (number_at l 0) ∷ size_of (number_at l 1) ∷ size_of (number_at l 2) ∷ size_of (number_at l 3) ∷ size_of (number_at l 4) ∷ size_of (number_at l 5)
+    ∷ size_of (number_at l 6) ∷ size_of (number_at l 7) ∷ size_of (number_at l 8) ∷ []
+
+abbrev pub fields_asked : List (Option Number) → Fields
 fields_asked l = fields_nine (sizes_in l)
 
 -- the commands that carry nothing
@@ -74,29 +80,31 @@ bare_asked code =
     other)))
 
 -- "`Q 90` or `Q 92`" and nine numbers, "`Q 91`, `Q 93 id value`, `Q 94 id`, `Q 95`, `Q 96`, `Q 9F`"
-unfoldable pub command_asked : ℕ → List Number → Ask
+unfoldable pub command_asked : ℕ → List (Option Number) → Ask
 command_asked code l =
     cond (eqb (length l) 0) (bare_asked code)
     (cond (eqb code 0x90 && (eqb (length l) 9 && all_plain l)) (sends (Initialise (fields_asked l)))
     (cond (eqb code 0x92 && (eqb (length l) 9 && all_plain l)) (sends (Update (fields_asked l)))
-    (cond (eqb code 0x93 && (eqb (length l) 2 && (is_plain (number_at l 0) && is_value (number_at l 1)))) (sends (Write (number_at l 0).size (value_of (number_at l 1))))
-    (cond (eqb code 0x94 && (eqb (length l) 1 && is_plain (number_at l 0))) (sends (Read (number_at l 0).size))
+    (cond (eqb code 0x93 && (eqb (length l) 2 && (is_plain (number_at l 0) && is_value (number_at l 1)))) (sends (Write (size_of (number_at l 0)) (value_at (number_at l 1))))
+    (cond (eqb code 0x94 && (eqb (length l) 1 && is_plain (number_at l 0))) (sends (Read (size_of (number_at l 0))))
     other))))
 
 -- behind the code nothing, or numbers "each after one space"
 abbrev pub is_spaced : List ℕ → Bool
 is_spaced t = eqb (length t) 4 || eqb (get_or t 4 0) space
 
+-- by the code
+unfoldable pub query_of : Option ℕ → List ℕ → Ask
+query_of None t = other
+query_of (Some code) t = cond (is_spaced t) (command_asked code (numbers_in (drop 4 t))) other
+
 unfoldable pub query_in : List ℕ → Ask
-query_in t =
-    cond (ltb (one_byte (take 3 (drop 1 t))) 256 && is_spaced t)
-    (command_asked (one_byte (take 3 (drop 1 t))) (numbers_in (drop 4 t)))
-    other
+query_in t = query_of (one_byte (take 3 (drop 1 t))) t
 
 -- ---- Y, P and N
 
 -- a run of bytes that has to be whole
-abbrev pub wholly : ItemsRead → (List ℕ → Ask) → Ask
+abbrev pub wholly : ItemsRead ℕ → (List ℕ → Ask) → Ask
 wholly r f = cond r.whole (f r.values) other
 
 -- "`Y cc`, `Y cc ee`"
@@ -129,23 +137,18 @@ ask_in t =
 
 -- "a decimal number too large for its field's type is 20": such a command can't be written down, and is outside; an answer's bytes lie
 -- in lent memory, and their count is said
-unfoldable pub say_ask : Ask → Line
-say_ask (sends c) = cond (command_typed c) (line.Send c) line.Outside
-say_ask (takes first form) = line.Take first form
-say_ask (hears bs) = line.Hear (length bs)
-say_ask waits = line.Wait
-say_ask again = line.Again
-say_ask other = line.Other
+unfoldable pub say_ask : Ask → Option Line
+say_ask (sends c) = Some (cond (command_typed c) (line.Send c) line.Outside)
+say_ask (takes first form) = Some (line.Take first form)
+say_ask (hears bs) = Some (line.Hear (length bs))
+say_ask waits = Some line.Wait
+say_ask again = Some line.Again
+say_ask other = None
 
 -- nine numbers behind `Q 90` or `Q 92`
-unfoldable pub line_given : Bool → Given → Line
-line_given initialises (Inside f) = line.Send (cond initialises (Initialise f) (Update f))
-line_given initialises Outside = line.Outside
-
--- a run of bytes that was read, by its count, or another line
-unfoldable pub counted : Items → Line
-counted (Good n) = line.Hear n
-counted Bad = line.Other
+unfoldable pub line_given : Bool → Option Fields → Option Line
+line_given initialises (Some f) = Some (line.Send (cond initialises (Initialise f) (Update f)))
+line_given initialises None = Some line.Outside
 
 -- the bytes of an answer
 unfoldable pub heard_bytes : Ask → List ℕ

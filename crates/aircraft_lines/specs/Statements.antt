@@ -1,6 +1,6 @@
 -- The sentences on the lines of aircraft as they are read, each a statement.
 -- Assumes nothing.
-use Rattle.std.specs.Prelude.{ℕ, suc, ◌≡◌, Bool, true, false, ◌&&◌, List, [], ◌∷◌, ◌++◌, map, ℤ, pos, negsuc, neg_ℤ}
+use Rattle.std.specs.Prelude.{ℕ, suc, ◌≡◌, true, false, List, [], ◌∷◌, ◌++◌, map, ℤ, pos, negsuc, neg_ℤ, Option, Some, option_map}
 use Rattle.packets.specs.declared.Command.{Command}
 use Rattle.packets.specs.Commands.{command_row, values_of}
 use Rattle.airframe.specs.Statements.{AllBytes}
@@ -10,27 +10,23 @@ use Rattle.decimals.specs.declared.Number.{Number}
 use Rattle.decimals.specs.Reading.{number}
 use Rattle.lines.specs.Asked.{packet, line_of}
 use Rattle.aircraft_lines.specs.Letters.{letter_p}
-use Rattle.aircraft_lines.specs.Asked.{sends, hears, waits, is_value, value_of, command_asked, ask_in}
+use Rattle.aircraft_lines.specs.Asked.{sends, hears, waits, value_of, command_asked, ask_in}
 
 -- "mode flags seconds milliseconds, priority limit and remaining, memory limit and remaining, poll", "`Q 93 id value`, `Q 94 id`": what
 -- is built has the line's own code, and its numbers in their order
 abbrev pub CommandCarried : Type 0
 CommandCarried =
-    (code : ℕ) (l : List Number) (c : Command) → command_asked code l ≡ sends c → ((command_row c).code ≡ code) × (values_of c ≡ map value_of l)
+    (code : ℕ) (l : List (Option Number)) (c : Command) → command_asked code l ≡ sends c
+    → ((command_row c).code ≡ code) × (map Some (values_of c) ≡ map (option_map value_of) l)
 
--- a command's numbers as a line has them, and whether each has at most ten digits
+-- a command's numbers as a line has them
 abbrev pub number_for : ℤ → Number
 number_for (pos n) = number false n
 number_for (negsuc n) = number true (suc n)
 
-unfoldable pub all_read : List Number → Bool
-all_read [] = true
-all_read (n ∷ ns) = is_value n && all_read ns
-
 -- and of every command there is such a line: `Q`, its code and its numbers
 abbrev pub EachAsked : Type 0
-EachAsked =
-    (c : Command) → all_read (map number_for (values_of c)) ≡ true → command_asked (command_row c).code (map number_for (values_of c)) ≡ sends c
+EachAsked = (c : Command) → command_asked (command_row c).code (map (λ v. Some (number_for v)) (values_of c)) ≡ sends c
 
 -- "a value may have a leading `-`"; "`-0` is 0"
 abbrev pub LeadingMinus : Type 0

@@ -1,130 +1,102 @@
 // What a line asks, by its letter.
-ghost use Rattle.std.specs.Prelude.{◌≡◌, ◌&&◌, cond, ◌*◌, ◌≤◌, ltb, length};
+ghost use Rattle.std.specs.Prelude.{◌≡◌, ◌*◌, ◌≤◌, length};
 ghost use Rattle.std.proofs.lemmas.List.Edits.{sets};
-ghost use Rattle.aircraft_lines.specs.Asked.{is_spaced, query_in, taking_in, is_silence, answer_in, ask_in, say_ask, counted, answer_bytes, bytes_left};
+ghost use Rattle.aircraft_lines.specs.Asked.{is_spaced, query_in, taking_in, is_silence, answer_in, ask_in, say_ask, answer_bytes, bytes_left};
 
 use crate::Line;
 use crate::commands::asked;
 use airframe::Form;
 use decimals::numbers_in;
-use items::{Items, bytes_in};
+use items::bytes_in;
 use lines::one_byte;
 
 // Whether behind the code nothing stands, or a space.
 fn spaced(line: &[u8]) -> bool
     ensures { result ≡ is_spaced line.now }
 {
-    if line.len() > 4 {
-        return line[4] == b' ';
-    }
-    line.len() == 4
+    matches!(line, [_, _, _, _] | [_, _, _, _, b' ', ..])
 }
 
 // `Q`, a code and numbers.
-fn query(line: &[u8]) -> Line
+#[tactic(auto, unfolding(crate::specs::Asked::query_in, crate::specs::Asked::query_of, crate::specs::Asked::say_ask, lines::specs::Asked::one_byte))]
+fn query(line: &[u8]) -> Option<Line>
     ensures { result ≡ say_ask (query_in line.now) }
 {
     if line.len() < 4 {
-        return Line::Other;
+        return None;
     }
-    let code = one_byte(&line[1..4]);
-    if code > 255 {
-        return Line::Other;
-    }
+    let code = one_byte(&line[1..4])?;
     if !spaced(line) {
-        return Line::Other;
+        return None;
     }
-    asked(code as u8, numbers_in(&line[4..]))
+    asked(code, numbers_in(&line[4..]))
 }
 
 // `Y` and a code.
-fn taken(first: u16) -> Line
-    ensures { result ≡ cond (ltb first 256) (Line.Take first Form.Taken) Line.Other }
+fn taken(line: &[u8]) -> Option<Line>
+    requires { length line.now ≡ 4 }
+    ensures { result ≡ say_ask (taking_in line.now) }
 {
-    if first > 255 {
-        return Line::Other;
-    }
-    Line::Take(first as u8, Form::Taken)
+    Some(Line::Take(one_byte(&line[1..4])?, Form::Taken))
 }
 
 // `Y`, a code and an error.
-fn failed(first: u16, error: u16) -> Line
-    ensures { result ≡ cond (ltb first 256 && ltb error 256) (Line.Take first (Form.Failed error)) Line.Other }
+fn failed(line: &[u8]) -> Option<Line>
+    requires { length line.now ≡ 7 }
+    ensures { result ≡ say_ask (taking_in line.now) }
 {
-    if first > 255 {
-        return Line::Other;
-    }
-    if error > 255 {
-        return Line::Other;
-    }
-    Line::Take(first as u8, Form::Failed(error as u8))
+    let first = one_byte(&line[1..4])?;
+    let error = one_byte(&line[4..7])?;
+    Some(Line::Take(first, Form::Failed(error)))
 }
 
 // `Y` and one byte or two.
-fn taking(line: &[u8]) -> Line
+fn taking(line: &[u8]) -> Option<Line>
     ensures { result ≡ say_ask (taking_in line.now) }
 {
     if line.len() == 4 {
-        return taken(one_byte(&line[1..4]));
+        return taken(line);
     }
     if line.len() == 7 {
-        return failed(one_byte(&line[1..4]), one_byte(&line[4..7]));
+        return failed(line);
     }
-    Line::Other
+    None
 }
 
 // `P -`.
 fn silence(line: &[u8]) -> bool
     ensures { result ≡ is_silence line.now }
 {
-    if line.len() != 3 {
-        return false;
-    }
-    (line[1] == b' ') & (line[2] == b'-')
-}
-
-fn heard(items: Items) -> Line
-    ensures { result ≡ counted items }
-{
-    match items {
-        Items::Good(n) => Line::Hear(n),
-        Items::Bad => Line::Other,
-    }
+    matches!(line, [_, b' ', b'-'])
 }
 
 // `P` and bytes, or `P -`.
-fn answer(line: &[u8], bytes: &mut [u8]) -> Line
+// That the lent memory has room for what a text can hold is a clause here and below: only there the text and the memory meet.
+#[tactic(auto, unfolding(crate::specs::Asked::answer_in, crate::specs::Asked::answer_bytes, crate::specs::Asked::say_ask, items::specs::Text::items_of))]
+fn answer(line: &[u8], bytes: &mut [u8]) -> Option<Line>
     requires { (1 ≤ length line.now) × (length line.now ≤ 3 * length bytes.old) }
     ensures value { result ≡ say_ask (answer_in line.now) }
     ensures bytes_after { bytes.new ≡ sets bytes.old 0 (answer_bytes line.now) }
 {
     if silence(line) {
-        return Line::Wait;
+        return Some(Line::Wait);
     }
-    heard(bytes_in(&line[1..], bytes))
+    bytes_in(&line[1..], bytes).map(|n| Line::Hear(n))
 }
 
 // A line of the table.
-pub fn read_line(line: &[u8], bytes: &mut [u8]) -> Line
+#[tactic(auto, unfolding(crate::specs::Asked::ask_in, crate::specs::Asked::bytes_left, crate::specs::Asked::say_ask))]
+pub fn read_line(line: &[u8], bytes: &mut [u8]) -> Option<Line>
     requires { length line.now ≤ 3 * length bytes.old }
     ensures value { result ≡ say_ask (ask_in line.now) }
     ensures bytes_after { bytes.new ≡ sets bytes.old 0 (bytes_left line.now) }
 {
-    if line.len() == 0 {
-        return Line::Other;
+    let (letter, _) = line.split_first()?;
+    match *letter {
+        b'Q' => query(line),
+        b'Y' => taking(line),
+        b'P' => answer(line, bytes),
+        b'N' if line.len() == 1 => Some(Line::Again),
+        _ => None,
     }
-    let letter = line[0];
-    if letter == b'Q' {
-        return query(line);
-    }
-    if letter == b'Y' {
-        return taking(line);
-    }
-    if letter == b'P' {
-        return answer(line, bytes);
-    }
-    if (letter == b'N') & (line.len() == 1) {
-        return Line::Again;
-    }
-    Line::Other
 }

@@ -1,80 +1,62 @@
 // A command, by its code and the numbers behind it.
-ghost use Rattle.std.specs.Prelude.{◌≡◌, List, [], ◌∷◌};
+ghost use Rattle.std.specs.Prelude.{◌≡◌, List, [], ◌∷◌, Option};
 ghost use Rattle.decimals.specs.declared.Number.{Number};
 ghost use Rattle.decimals.specs.Reading.{numbers_read};
 ghost use Rattle.aircraft_lines.specs.Asked.{bare_asked, command_asked, say_ask};
 
 use crate::Line;
 use crate::fields::nine;
-use crate::values::{fits, plain, value};
-use decimals::{NONE, Number, Numbers};
+use crate::values::{plain, value};
+use decimals::{Number, Numbers};
 use packets::Command;
 
-// A command that carries nothing.
-fn bare(code: u8) -> Line
+// A command that carries nothing. By the byte and no `Code`, here and below: `command_asked` decides by the byte.
+#[tactic(auto, unfolding(crate::specs::Asked::bare_asked, crate::specs::Asked::say_ask, airframe::specs::Given::command_typed))]
+fn bare(code: u8) -> Option<Line>
     ensures { result ≡ say_ask (bare_asked code) }
 {
-    if code == 0x91 {
-        return Line::Send(Command::Status);
+    match code {
+        0x91 => Some(Line::Send(Command::Status)),
+        0x95 => Some(Line::Send(Command::Priority)),
+        0x96 => Some(Line::Send(Command::Data)),
+        0x9F => Some(Line::Send(Command::Shutdown)),
+        _ => None,
     }
-    if code == 0x95 {
-        return Line::Send(Command::Priority);
-    }
-    if code == 0x96 {
-        return Line::Send(Command::Data);
-    }
-    if code == 0x9F {
-        return Line::Send(Command::Shutdown);
-    }
-    Line::Other
 }
 
 // `Q 93`, an id and a value.
-fn writes(id: Number, v: Number) -> Line
+fn writes(id: Option<Number>, v: Option<Number>) -> Option<Line>
     ensures { result ≡ say_ask (command_asked 0x93 (id ∷ v ∷ [])) }
 {
-    if !(plain(id) & (v.size < NONE)) {
-        return Line::Other;
+    let id = plain(id)?;
+    let v = v?;
+    match (u8::try_from(id), value(v)) {
+        (Ok(id), Some(value)) => Some(Line::Send(Command::Write(id, value))),
+        _ => Some(Line::Outside),
     }
-    if !((id.size < 0x100) & fits(v)) {
-        return Line::Outside;
-    }
-    let given = value(v);
-    Line::Send(Command::Write(id.size as u8, given))
 }
 
 // `Q 94` and an id.
-fn reads(id: Number) -> Line
+fn reads(id: Option<Number>) -> Option<Line>
     ensures { result ≡ say_ask (command_asked 0x94 (id ∷ [])) }
 {
-    if !plain(id) {
-        return Line::Other;
+    let id = plain(id)?;
+    match u8::try_from(id) {
+        Ok(id) => Some(Line::Send(Command::Read(id))),
+        Err(_) => Some(Line::Outside),
     }
-    if id.size < 0x100 {
-        return Line::Send(Command::Read(id.size as u8));
-    }
-    Line::Outside
 }
 
 // By how many numbers there are.
-pub fn asked(code: u8, numbers: Numbers) -> Line
-    ensures { (l : List Number) → numbers ≡ numbers_read l → result ≡ say_ask (command_asked code l) }
+pub fn asked(code: u8, numbers: Numbers) -> Option<Line>
+    ensures { (l : List (Option Number)) → numbers ≡ numbers_read l → result ≡ say_ask (command_asked code l) }
 {
     let list = numbers.list;
-    if numbers.count == 0 {
-        return bare(code);
+    match (numbers.count, code) {
+        (0, _) => bare(code),
+        (9, _) => nine(code, list),
+        (2, 0x93) => writes(list[0], list[1]),
+        (1, 0x94) => reads(list[0]),
+        _ => None,
     }
-    if numbers.count == 9 {
-        return nine(code, list);
-    }
-    if (numbers.count == 2) & (code == 0x93) {
-        let id = list[0];
-        let v = list[1];
-        return writes(id, v);
-    }
-    if (numbers.count == 1) & (code == 0x94) {
-        let id = list[0];
-        return reads(id);
-    }
-    Line::Other
 }

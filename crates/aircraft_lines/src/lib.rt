@@ -11,7 +11,7 @@ pub use asking::read_line;
 use packets::Command;
 
 // A line of the table. An answer's bytes lie in lent memory, so many from its start. Outside is a command whose numbers no command
-// can hold.
+// can hold: a line with an answer of its own, and not the None of a line that is none.
 #[derive(Clone, Copy)]
 pub enum Line {
     Send(Command),
@@ -20,5 +20,4 @@ pub enum Line {
     Hear(usize),
     Wait,
     Again,
-    Other,
 }

@@ -1,32 +1,25 @@
 // A number of the text as a field's, and as a parameter's value.
-ghost use Rattle.std.specs.Prelude.{◌≡◌, true};
+ghost use Rattle.std.specs.Prelude.{◌≡◌, cond, Option, Some, None};
 ghost use Rattle.airframe.specs.Given.{value_typed};
-ghost use Rattle.aircraft_lines.specs.Asked.{is_plain, value_of};
+ghost use Rattle.aircraft_lines.specs.Asked.{is_plain, size_of, value_of};
 
-use decimals::{NONE, Number, below};
-use numbers::signed;
+use decimals::Number;
 
-// A number without a sign.
-pub fn plain(n: Number) -> bool
-    ensures { result ≡ is_plain n }
+// The size of a number without a sign.
+pub fn plain(n: Option<Number>) -> Option<u64>
+    ensures { result ≡ cond (is_plain n) (Some (size_of n)) None }
 {
-    !n.minus & (n.size < NONE)
-}
-
-// Whether 32 bits hold the value.
-pub fn fits(n: Number) -> bool
-    ensures { result ≡ value_typed (value_of n) }
-{
-    (n.size < 0x8000_0000) | (n.minus & (n.size == 0x8000_0000))
-}
-
-// By the 32 bits in two's complement.
-pub fn value(n: Number) -> i32
-    requires { value_typed (value_of n) ≡ true }
-    ensures { result ≡ value_of n }
-{
-    if below(n) {
-        return signed((0x1_0000_0000 - n.size) as u32);
+    match n {
+        Some(Number { minus: false, size }) => Some(size),
+        _ => None,
     }
-    signed(n.size as u32)
+}
+
+// The value, where 32 bits hold it.
+// lab_lines has the same two lines: one function for both would have a contract and an edit of its own, longer than what it saves.
+pub fn value(n: Number) -> Option<i32>
+    ensures { result ≡ cond (value_typed (value_of n)) (Some (value_of n)) None }
+{
+    let size = i64::try_from(n.size).ok()?;
+    i32::try_from(if n.minus { -size } else { size }).ok()
 }

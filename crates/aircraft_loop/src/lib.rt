@@ -4,13 +4,14 @@
 mod playing;
 mod turns;
 
-use aircraft_answers::Answered;
-use lines::Cursor;
+use aircraft_answers::Underway;
+use items::Output;
 pub use playing::play;
 
-// Where the next line starts, what is on its way, and the output's place.
-#[derive(Clone, Copy)]
-pub struct Standing {
-    pub cursor: Cursor,
-    pub answered: Answered,
+// What stands between two lines: what is on its way, the bytes of an answer, and the output.
+#[derive(Drop)]
+pub struct Between {
+    pub way: Underway,
+    pub bytes: [u8; 65536],
+    pub out: Output<65536>,
 }

@@ -1,11 +1,22 @@
 // What the program is lent, and its run.
-use crate::turns::run;
+use crate::Between;
+use crate::turns::fresh;
+use items::Output;
+use pieces::run;
 
-// The pieces of input and output, a line that is held, and the bytes of an answer.
+// The pieces of input, a line that is held, and what stands between two lines: nothing yet.
+// Two buffers and `run`, which every program has from `pieces`: one `play` for all would still be handed the state, and would have to
+// require what `run` requires of it.
 pub fn play(rt: &HostRuntime) {
-    let mut piece = io::large_buffer();
+    let mut piece = [0u8; 65536];
     let mut line = [0u8; 196606];
-    let mut bytes = [0u8; 65536];
-    let mut out = io::large_buffer();
-    run(&mut piece, &mut line, &mut bytes, &mut out, &mut rt.stdin());
+    let mut between = Between {
+        way: fresh(),
+        bytes: [0; 65536],
+        out: Output {
+            out: [0; 65536],
+            at: 0,
+        },
+    };
+    run(&mut piece, &mut line, &mut between, &mut rt.stdin());
 }

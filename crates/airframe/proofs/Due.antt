@@ -1,7 +1,7 @@
 -- Which answers are right, by the answer that is due, and how each is read.
 use Prim.Native.Nat.{ℕ, ◌≤◌, ◌<◌}
 use native.Mathlib.Omega.{arith}
-use mathlib.Core.Path.{◌≡◌, refl, sym, ap, ◌∙◌}
+use mathlib.Core.Path.{◌≡◌, refl, ap, ◌∙◌}
 use mathlib.Core.Bool.{true, false, not, ◌&&◌, ◌||◌}
 use mathlib.Core.List.{List}
 use borrow.Author.Tests.{ltb-true, ltb-false, ne_eqb, eqb-true, eqb-false, leb-true}
@@ -11,7 +11,7 @@ use Rattle.rows.specs.Rows.{refused, gave}
 use Rattle.rows.proofs.Bool.{split, never, and_left, and_right, and-false}
 use Rattle.packets.specs.Commands.{find_in, code_row, is_code}
 use Rattle.packets.specs.Reading.{first, second, third, crc_right}
-use Rattle.packets.proofs.Rows.{last_code, of_code, code_answered}
+use Rattle.packets.proofs.Rows.{last_code, of_code}
 use Rattle.airframe.specs.Building.{refusal_number}
 use Rattle.airframe.specs.Reading.{done, failed, success_right, answer_right, body_meant, read_as}
 
@@ -25,11 +25,12 @@ short_due code h = of_code (λ r. eqb r.kind 2 ≡ not (eqb r.answer 5)) code (r
 
 module _ (code : ℕ) (a : List ℕ) where
   -- the tests, by the number of bytes that is due
-  pub tested : answer_right code a ≡ not (eqb (code_row code).answer 0) && crc_right a && eqb (first a) code
+  pub tested : is_code code ≡ true
+      → answer_right code a ≡ crc_right a && eqb (first a) code
       && (eqb (second a) 0x09 && eqb (length a) 5
       || eqb (second a) 0x01 && eqb (length a) (code_row code).answer && (not (eqb (code_row code).answer 5) || eqb (third a) 0x7E))
   unfolding answer_right success_right
-  tested = split (is_code code) (λ h. rw (sym (code_answered code), short_due code h)) (λ h. rw (sym (code_answered code), h))
+  tested h = rw (h, short_due code h)
 
   -- under 5 bytes
   pub cut_short : length a < 5 → answer_right code a ≡ false
@@ -45,6 +46,11 @@ module _ (code : ℕ) (a : List ℕ) where
   pub unusable : answer_right code a ≡ false → read_as code a ≡ refused 23
   unfolding read_as refusal_number
   unusable e = rw e
+
+  -- and so is any to a byte that is no code
+  pub no_code : is_code code ≡ false → read_as code a ≡ refused 23
+  unfolding answer_right
+  no_code e = unusable (rw e)
 
   -- the rest is of a right answer
   module _ (right : answer_right code a ≡ true) where

@@ -1,6 +1,6 @@
 -- What the aircraft sends: every command and acknowledgement of document 01, from its fields, into a lent room.
 -- Assumes nothing.
-use Rattle.std.specs.Prelude.{ℕ, ◌^◌, Bool, true, not, ◌&&◌, List, [], ◌∷◌, ltb, leb, length}
+use Rattle.std.specs.Prelude.{ℕ, ◌^◌, Bool, true, not, ◌&&◌, List, [], ◌∷◌, ltb, leb, length, Result, Ok, Err}
 use Rattle.std.proofs.lemmas.List.Edits.{sets}
 use Rattle.rows.specs.Rows.{Row, row, Said, refused, gave, Out, out, ran}
 use Rattle.packets.specs.declared.Fields.{Fields}
@@ -14,8 +14,6 @@ use Rattle.airframe.specs.declared.Form.{Form}
 use Rattle.airframe.specs.declared.Form.TheVariants.{Taken, Failed}
 use Rattle.airframe.specs.declared.Refusal.{Refusal}
 use Rattle.airframe.specs.declared.Refusal.TheVariants.{Field, Wrong, Room}
-use Rattle.airframe.specs.declared.Built.{Built}
-use Rattle.airframe.specs.declared.Built.TheVariants.{Bytes, Refused}
 
 -- document 01's bounds of the fields; "upper 22 bits seconds": of a larger number the top would be cut off
 unfoldable pub fields_fit : Fields → Bool
@@ -83,6 +81,6 @@ refusal_number Wrong = 23
 refusal_number Room = 24
 
 -- how many bytes were built, or the number of the refusal
-unfoldable pub built_said : Built → Said ℕ
-built_said (Bytes n) = gave n
-built_said (Refused r) = refused (refusal_number r)
+unfoldable pub built_said : Result ℕ Refusal → Said ℕ
+built_said (Ok n) = gave n
+built_said (Err r) = refused (refusal_number r)

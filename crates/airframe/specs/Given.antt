@@ -1,12 +1,10 @@
 -- A command from numbers of any size: those that the types of the code do not hold are outside their bounds.
 -- Assumes nothing.
-use Rattle.std.specs.Prelude.{ℕ, ◌^◌, Bool, true, ◌&&◌, cond, List, ltb, ℤ, pos, neg_ℤ, get_or}
+use Rattle.std.specs.Prelude.{ℕ, ◌^◌, Bool, true, ◌&&◌, cond, List, ltb, ℤ, pos, neg_ℤ, get_or, Option, Some, None}
 use Rattle.std.specs.Int.Signed.{le_z, lt_z}
 use Rattle.packets.specs.declared.Fields.{Fields}
 use Rattle.packets.specs.declared.Command.{Command}
 use Rattle.packets.specs.declared.Command.TheVariants.{Initialise, Status, Update, Write, Read, Priority, Data, Shutdown}
-use Rattle.airframe.specs.declared.Given.{Given}
-use Rattle.airframe.specs.declared.Given.TheVariants.{Inside, Outside}
 
 -- "mode flags seconds milliseconds, priority limit and remaining, memory limit and remaining, poll"
 abbrev pub fields_nine : List ℕ → Fields
@@ -50,5 +48,5 @@ command_typed Data = true
 command_typed Shutdown = true
 
 -- the fields that nine numbers are, or that a type of the code does not hold one: then it is outside its bounds
-unfoldable pub given_in : List ℕ → Given
-given_in n = cond (fields_typed (fields_nine n)) (Inside (fields_nine n)) Outside
+unfoldable pub given_in : List ℕ → Option Fields
+given_in n = cond (fields_typed (fields_nine n)) (Some (fields_nine n)) None

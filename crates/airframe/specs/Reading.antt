@@ -1,6 +1,6 @@
 -- What an answer means to the aircraft, by the command that it answers.
 -- Assumes nothing.
-use Rattle.std.specs.Prelude.{ℕ, ◌≡◌, Bool, true, not, ◌&&◌, ◌||◌, cond, List, ◌∷◌, ◌++◌, ◌⊎◌, eqb, ℤ, length, get_or, take, drop}
+use Rattle.std.specs.Prelude.{ℕ, ◌≡◌, Bool, true, not, ◌&&◌, ◌||◌, cond, List, ◌∷◌, ◌++◌, ◌⊎◌, eqb, ℤ, length, get_or, take, drop, Result, Ok, Err}
 use Rattle.rows.specs.Rows.{Said, refused, gave}
 use Rattle.numbers.specs.Numbers.{high_first, number_at, signed_of}
 use Rattle.packets.specs.declared.Command.{Command}
@@ -9,10 +9,11 @@ use Rattle.packets.specs.declared.Report.{Report}
 use Rattle.packets.specs.Commands.{code_row, is_code}
 use Rattle.packets.specs.Reading.{first, second, third, crc_right}
 use Rattle.packets.specs.Answers.{answer_of, error_answer, done_answer, value_answer, data_answer}
+use Rattle.airframe.specs.declared.Refusal.{Refusal}
 use Rattle.airframe.specs.declared.Refusal.TheVariants.{Wrong}
 use Rattle.airframe.specs.declared.Shown.{Shown}
 use Rattle.airframe.specs.declared.Meaning.{Meaning}
-use Rattle.airframe.specs.declared.Meaning.TheVariants.{Unusable, Done, Error, State, Value, Block}
+use Rattle.airframe.specs.declared.Meaning.TheVariants.{Done, Error, State, Value, Block}
 use Rattle.airframe.specs.Building.{refusal_number}
 
 -- what an answer means: done; an error with its byte; a status with its request byte; a value with its id; a block
@@ -94,10 +95,10 @@ CanMean code (block b) = ((code ≡ 0x95) ⊎ (code ≡ 0x96)) × (length b ≡ 
 abbrev pub shown_report : Shown → List ℕ → Report
 shown_report s ids = record { mode = s.mode; flags = s.flags; priority = s.priority; ordinary = s.ordinary; ids = ids }
 
-unfoldable pub meaning_said : Meaning → List ℕ → Said Meant
-meaning_said Unusable a = refused (refusal_number Wrong)
-meaning_said Done a = gave done
-meaning_said (Error e) a = gave (failed e)
-meaning_said (State s) a = gave (status (shown_report s (ids_in a)) s.request)
-meaning_said (Value id v) a = gave (value id v)
-meaning_said Block a = gave (block (block_in a))
+unfoldable pub meaning_said : Result Meaning Refusal → List ℕ → Said Meant
+meaning_said (Err why) a = refused (refusal_number why)
+meaning_said (Ok Done) a = gave done
+meaning_said (Ok (Error e)) a = gave (failed e)
+meaning_said (Ok (State s)) a = gave (status (shown_report s (ids_in a)) s.request)
+meaning_said (Ok (Value id v)) a = gave (value id v)
+meaning_said (Ok Block) a = gave (block (block_in a))

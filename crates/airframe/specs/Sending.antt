@@ -1,7 +1,6 @@
 -- When the aircraft sends again, and when it reports the pod lost.
 -- Assumes nothing.
-use Rattle.std.specs.Prelude.{ℕ, Bool, true, false, cond, List, [], ◌∷◌, eqb}
-use Rattle.std.proofs.Math.Option.{Option, none, some}
+use Rattle.std.specs.Prelude.{ℕ, Bool, true, false, cond, List, [], ◌∷◌, eqb, Option, Some, None, Result}
 use Rattle.rows.specs.Rows.{Said, refused, gave}
 use Rattle.airframe.specs.declared.Left.{Left}
 use Rattle.airframe.specs.declared.Left.TheVariants.{Nought, One, Two, Three}
@@ -9,8 +8,8 @@ use Rattle.airframe.specs.declared.Sending.{Sending}
 use Rattle.airframe.specs.declared.Sending.TheVariants.{Over, Awaiting}
 use Rattle.airframe.specs.declared.Step.{Step}
 use Rattle.airframe.specs.declared.Step.TheVariants.{Idle, Ended, Again, Lost}
-use Rattle.airframe.specs.declared.Reply.{Reply}
-use Rattle.airframe.specs.declared.Reply.TheVariants.{Unread, Answer}
+use Rattle.airframe.specs.declared.Refusal.{Refusal}
+use Rattle.airframe.specs.declared.Meaning.{Meaning}
 use Rattle.airframe.specs.declared.Heard.{Heard}
 use Rattle.airframe.specs.Reading.{Meant, done, failed, status, value, block, read_as, meaning_said}
 
@@ -63,20 +62,20 @@ abbrev pub outcome : Step → Option (Said Meant) → Sending → Outcome
 outcome s m k = record { step = s; meant = m; sending = k }
 
 abbrev pub read_in : ℕ → Came → Option (Said Meant)
-read_in code silence = none
-read_in code (answer a) = some (read_as code a)
+read_in code silence = None
+read_in code (answer a) = Some (read_as code a)
 
 -- with nothing on its way a reply is not read and changes nothing; else it uses up a send or ends the exchange
 unfoldable pub heard_of : Sending → Came → Outcome
-heard_of Over x = outcome Idle none Over
+heard_of Over x = outcome Idle None Over
 heard_of (Awaiting code left) x =
     cond (unanswered code x) (outcome (step_left left) (read_in code x) (fewer code left))
     (outcome Ended (read_in code x) Over)
 
 -- what the code's outcome stands for, beside the answer that it heard
-abbrev pub reply_said : Reply → List ℕ → Option (Said Meant)
-reply_said Unread a = none
-reply_said (Answer m) a = some (meaning_said m a)
+abbrev pub reply_said : Option (Result Meaning Refusal) → List ℕ → Option (Said Meant)
+reply_said None a = None
+reply_said (Some m) a = Some (meaning_said m a)
 
 unfoldable pub heard_said : Heard → List ℕ → Outcome
 heard_said h a = outcome h.step (reply_said h.reply a) h.sending

@@ -1,7 +1,6 @@
 -- The sentences of request No. 1, each a statement.
 -- Assumes nothing.
-use Rattle.std.specs.Prelude.{ℕ, suc, ◌^◌, ◌<◌, ◌≤◌, ◌≡◌, Bool, true, false, cond, List, [], ◌∷◌, ◌++◌, ◌↔◌, ◌⊎◌, ℤ, length, take, drop, get_or, set}
-use Rattle.std.proofs.Math.Option.{none, some}
+use Rattle.std.specs.Prelude.{ℕ, suc, ◌^◌, ◌<◌, ◌≤◌, ◌≡◌, Bool, true, false, cond, List, [], ◌∷◌, ◌++◌, ◌↔◌, ◌⊎◌, ℤ, length, take, drop, get_or, set, Some, None, Result}
 use Rattle.std.specs.Int.Signed.{mag}
 use Rattle.rows.specs.Rows.{Said, refused, gave}
 use Rattle.packets.specs.declared.Command.{Command}
@@ -12,7 +11,7 @@ use Rattle.packets.specs.Commands.{is_code, command_row}
 use Rattle.packets.specs.Answers.{command_bytes, answer_of, error_answer, done_answer, value_answer, data_answer}
 use Rattle.airframe.specs.declared.Form.{Form}
 use Rattle.airframe.specs.declared.Form.TheVariants.{Taken, Failed}
-use Rattle.airframe.specs.declared.Built.{Built}
+use Rattle.airframe.specs.declared.Refusal.{Refusal}
 use Rattle.airframe.specs.declared.Meaning.{Meaning}
 use Rattle.airframe.specs.declared.Left.{Left}
 use Rattle.airframe.specs.declared.Sending.TheVariants.{Over, Awaiting}
@@ -170,17 +169,17 @@ EndedOnce =
 -- "23 is given exactly when its row holds, on the fourth send too"; "After an answer or lost a reply is not read: it says that
 -- nothing is on its way, and changes nothing."
 pub record ReadBeside : Type 0 where
-  pub an_answer : (code : ℕ) (left : Left) (a : List ℕ) → (heard_of (Awaiting code left) (answer a)).meant ≡ some (read_as code a)
-  pub no_answer : (code : ℕ) (left : Left) → (heard_of (Awaiting code left) silence).meant ≡ none
-  pub not_awaited : (x : Came) → heard_of Over x ≡ outcome Idle none Over
+  pub an_answer : (code : ℕ) (left : Left) (a : List ℕ) → (heard_of (Awaiting code left) (answer a)).meant ≡ Some (read_as code a)
+  pub no_answer : (code : ℕ) (left : Left) → (heard_of (Awaiting code left) silence).meant ≡ None
+  pub not_awaited : (x : Came) → heard_of Over x ≡ outcome Idle None Over
 
 -- ---- for each public promise: two outcomes that it allows are equal
 
 abbrev pub BuildDecided : Type 0
-BuildDecided = (r s : Built) → built_said r ≡ built_said s → r ≡ s
+BuildDecided = (r s : Result ℕ Refusal) → built_said r ≡ built_said s → r ≡ s
 
 abbrev pub ReadDecided : Type 0
-ReadDecided = (r s : Meaning) (a : List ℕ) → meaning_said r a ≡ meaning_said s a → r ≡ s
+ReadDecided = (r s : Result Meaning Refusal) (a : List ℕ) → meaning_said r a ≡ meaning_said s a → r ≡ s
 
 abbrev pub HeardDecided : Type 0
 HeardDecided = (r s : Heard) (a : List ℕ) → heard_said r a ≡ heard_said s a → r ≡ s

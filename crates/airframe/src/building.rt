@@ -1,13 +1,14 @@
-// A command or an acknowledgement is built into a lent room; the fields are judged first, and then the room.
-ghost use Rattle.std.specs.Prelude.{◌≡◌, ◌≤◌, length};
-ghost use Rattle.rows.specs.Rows.{out};
+// A command or an acknowledgement is built into a lent room.
+ghost use Rattle.std.specs.Prelude.{◌≡◌, ◌≤◌, true, [], ◌∷◌, length, MatchResult};
+ghost use Rattle.rows.specs.Rows.{out, First};
 ghost use Rattle.packets.specs.Answers.{Written};
-ghost use Rattle.airframe.specs.Building.{fields_fit, command_fits, first_fits, acknowledgement_bytes, command_built, acknowledgement_built, built_said};
+ghost use Rattle.airframe.specs.Building.{fields_fit, command_fits, first_fits, acknowledgement_bytes, command_built, acknowledgement_built, field_row, room_row, refusal_number, built_said};
 
-use crate::{Built, Form, Refusal};
+use crate::{Form, Refusal};
 use packets::{Command, Fields};
 
 // Whether fields are within document 01's bounds, and the seconds in their 22 bits.
+#[tactic(auto, unfolding(crate::specs::Building::fields_fit))]
 fn fields_fit(f: Fields) -> bool
     ensures { result ≡ fields_fit f }
 {
@@ -15,6 +16,7 @@ fn fields_fit(f: Fields) -> bool
 }
 
 // Whether every field of a command is within its bounds.
+#[tactic(auto, unfolding(crate::specs::Building::command_fits))]
 fn fits(command: Command) -> bool
     ensures { result ≡ command_fits command }
 {
@@ -30,20 +32,31 @@ fn fits(command: Command) -> bool
     }
 }
 
-// A command's packet, from the start of the room on.
-pub fn build(command: Command, room: &mut [u8]) -> Built
-    ensures { out (built_said result) tt room.new ≡ command_built command room.old }
+// The fields are judged first, and then the room.
+#[tactic(auto, unfolding(crate::specs::Building::refusal_number))]
+fn judged(inside: bool, room: &[u8]) -> Result<(), Refusal>
+    ensures { MatchResult result (λ _. (inside ≡ true) × (25 ≤ length room.now)) (λ why. First (refusal_number why) (field_row inside ∷ room_row room.now ∷ [])) }
 {
-    if !fits(command) {
-        return Built::Refused(Refusal::Field);
+    if !inside {
+        return Err(Refusal::Field);
     }
     if room.len() < packets::COMMAND {
-        return Built::Refused(Refusal::Room);
+        return Err(Refusal::Room);
     }
-    Built::Bytes(packets::write_command(room, command))
+    Ok(())
+}
+
+// A command's packet, from the start of the room on.
+pub fn build(command: Command, room: &mut [u8]) -> Result<usize, Refusal>
+    ensures { out (built_said result) tt room.new ≡ command_built command room.old }
+{
+    judged(fits(command), room)?;
+    Ok(packets::write_command(room, command))
 }
 
 // Whether a byte may stand first in an acknowledgement.
+// By the range and no `Code`: `first_fits` says 0x90 to 0x9F, and not each of these is a code.
+#[tactic(auto, unfolding(crate::specs::Building::first_fits))]
 fn first_fits(first: u8) -> bool
     ensures { result ≡ first_fits first }
 {
@@ -51,6 +64,7 @@ fn first_fits(first: u8) -> bool
 }
 
 // An acknowledgement has the bytes of a short answer.
+#[tactic(auto, unfolding(crate::specs::Building::acknowledgement_bytes))]
 fn write_form(room: &mut [u8], first: u8, form: Form) -> usize
     requires { 25 ≤ length room.old }
     ensures { Written (acknowledgement_bytes first form) room.old room.new result }
@@ -62,14 +76,9 @@ fn write_form(room: &mut [u8], first: u8, form: Form) -> usize
 }
 
 // An acknowledgement, from the start of the room on.
-pub fn acknowledge(first: u8, form: Form, room: &mut [u8]) -> Built
+pub fn acknowledge(first: u8, form: Form, room: &mut [u8]) -> Result<usize, Refusal>
     ensures { out (built_said result) tt room.new ≡ acknowledgement_built first form room.old }
 {
-    if !first_fits(first) {
-        return Built::Refused(Refusal::Field);
-    }
-    if room.len() < packets::COMMAND {
-        return Built::Refused(Refusal::Room);
-    }
-    Built::Bytes(write_form(room, first, form))
+    judged(first_fits(first), room)?;
+    Ok(write_form(room, first, form))
 }

@@ -67,3 +67,7 @@ module _ (n i : ℕ) (h : i < n) where
   -- n places on is the place itself
   pub place-all : place_behind n i n ≡ i
   place-all = by_place n i n (omega arith) (λ a e. omega arith) (λ a e. omega arith)
+
+-- the place behind those that wait is in the store
+pub behind_in : (n : ℕ) (r : Ring) → sound_ring n r ≡ true → r.waiting < n → place_behind n r.oldest r.waiting < n
+behind_in n r ok room = place_in n r.oldest (bounds n r ok).0 r.waiting (omega arith)

@@ -1,152 +1,85 @@
 // The byte pipe.
-ghost use Rattle.std.specs.Prelude.{◌≡◌, [], ◌∷◌, length};
-ghost use Rattle.rows.specs.Rows.{refused, gave, out};
-ghost use Rattle.pipe.specs.Input.{sent_packet};
-ghost use Rattle.rules.specs.State.{with_pipe};
-ghost use Rattle.rules.specs.Refusals.{done, refusal_number, answer_said, state_row, asleep_row};
-ghost use Rattle.rules.specs.Families.{byte, timeout, packet_out, taken, output_moved, pipe};
-ghost use Rattle.rules.specs.Calls.{lone_rows, lone_call};
+#![tactic(auto, using(gates::proofs::Told::calling, gates::proofs::Fits::fitting), unfolding(rules::specs::Refusals::said, rules::specs::Calls::lone_call, rules::specs::Families::lone_of, rules::specs::Families::pipe_of))]
+
+ghost use Rattle.std.specs.Prelude.{◌≡◌, [], ◌∷◌, IfOk};
+ghost use Rattle.rows.specs.Rows.{out};
+ghost use Rattle.rules.specs.Refusals.{done, said, state_row, asleep_row};
+ghost use Rattle.rules.specs.Families.{byte, timeout, packet_out, taken, pipe};
+ghost use Rattle.rules.specs.Calls.{sent_in, lone_rows, lone_call};
 ghost use Rattle.gates.specs.Gates.{Gated};
 
-use commands::{sound, with_pipe};
-use gates::Gate;
-use pipe::{Handed, Output, Pipe, Piped, Sent};
-use rules::{Answer, Passed, Pod, Refusal};
+use commands::judge;
+use pipe::Sent;
+use rules::{Pod, Refusal};
 
 // The rows of every pipe call but the packet out.
-fn pipe_gate(pod: Pod) -> Gate
-    ensures { Gated result (state_row pod ∷ asleep_row pod ∷ []) }
+#[tactic(auto, using(gates::proofs::Told::gating), unfolding(rules::specs::Refusals::refusal_number))]
+fn pipe_gate(pod: &Pod) -> Result<(), Refusal>
+    ensures { Gated result (state_row pod.now ∷ asleep_row pod.now ∷ []) }
 {
-    if !sound(pod) {
-        return Gate::Shut(Refusal::State);
-    }
+    judge(pod)?;
     if !pod.initialised {
-        return Gate::Shut(Refusal::Asleep);
+        return Err(Refusal::Asleep);
     }
-    Gate::Open
+    Ok(())
 }
 
-fn out_gate(pod: Pod, bytes: &[u8]) -> Gate
-    ensures { Gated result (lone_rows (pipe (packet_out bytes.now)) pod) }
+// The rows of the packet out, and its bytes where there are eight.
+#[tactic(auto, using(gates::proofs::Told::gating), unfolding(rules::specs::Refusals::refusal_number))]
+fn out_gate(pod: &Pod, bytes: &[u8]) -> Result<[u8; 8], Refusal>
+    ensures gated { Gated result (lone_rows (pipe (packet_out bytes.now)) pod.now) }
+    ensures eight { IfOk result (λ packet. packet ≡ bytes.now) }
 {
-    if !sound(pod) {
-        return Gate::Shut(Refusal::State);
-    }
-    if bytes.len() != 8 {
-        return Gate::Shut(Refusal::Eight);
-    }
+    judge(pod)?;
+    let packet = <[u8; 8]>::try_from(bytes).map_err(|_| Refusal::Eight)?;
     if !pod.initialised {
-        return Gate::Shut(Refusal::Asleep);
+        return Err(Refusal::Asleep);
     }
-    let output = pod.pipe.output;
-    if output.busy() {
-        return Gate::Shut(Refusal::Busy);
+    if pod.pipe.output.busy() {
+        return Err(Refusal::Busy);
     }
-    Gate::Open
+    Ok(packet)
 }
 
-// Refused: nothing is given.
-fn unpassed(pod: Pod, why: Refusal) -> Passed
-    ensures { out (answer_said result.answer) result.pod result.sent ≡ out (refused (refusal_number why)) pod (sent_packet []) }
-{
-    Passed {
-        answer: Answer::Refused(why),
-        sent: Sent {
-            bytes: [0; 8],
-            count: 0,
-        },
-        pod,
-    }
-}
-
-fn passed(pod: Pod, piped: Piped, output: Output) -> Passed
-    ensures { out (answer_said result.answer) result.pod result.sent ≡ out (gave done) (with_pipe (record { input = piped.input; output = output }) pod) piped.sent }
-{
-    let sent = piped.sent;
-    let input = piped.input;
-    Passed {
-        answer: Answer::Done,
-        sent,
-        pod: with_pipe(pod, Pipe { input, output }),
-    }
-}
-
-fn handed(pod: Pod, handed: Handed) -> Passed
-    ensures { out (answer_said result.answer) result.pod result.sent ≡ out (gave done) (with_pipe (output_moved handed pod.pipe).pod pod) handed.sent }
-{
-    let input = pod.pipe.input;
-    let sent = handed.sent;
-    let output = handed.output;
-    Passed {
-        answer: Answer::Done,
-        sent,
-        pod: with_pipe(pod, Pipe { input, output }),
-    }
-}
+// The four calls have a step and a half of the pipe each, two lines: one function that takes the step would be called by as many.
 
 // A byte from the camera; the eighth sends all eight.
-pub fn pipe_byte(pod: Pod, b: u8) -> Passed
-    ensures { out (answer_said result.answer) result.pod result.sent ≡ lone_call (pipe (byte b)) pod }
+pub fn pipe_byte(pod: &mut Pod, b: u8) -> Result<Sent, Refusal>
+    ensures { out (said (λ _. done) result) pod.new (sent_in result) ≡ lone_call (pipe (byte b)) pod.old }
 {
-    let gate = pipe_gate(pod);
-    match gate {
-        Gate::Shut(why) => unpassed(pod, why),
-        Gate::Open => {
-            let input = pod.pipe.input;
-            let output = pod.pipe.output;
-            passed(pod, input.byte(b), output)
-        }
-    }
+    pipe_gate(pod)?;
+    let piped = pod.pipe.input.byte(b);
+    pod.pipe.input = piped.input;
+    Ok(piped.sent)
 }
 
 // What is gathered goes as a short packet, and what is in hand is dropped.
-pub fn pipe_timeout(pod: Pod) -> Passed
-    ensures { out (answer_said result.answer) result.pod result.sent ≡ lone_call (pipe timeout) pod }
+pub fn pipe_timeout(pod: &mut Pod) -> Result<Sent, Refusal>
+    ensures { out (said (λ _. done) result) pod.new (sent_in result) ≡ lone_call (pipe timeout) pod.old }
 {
-    let gate = pipe_gate(pod);
-    match gate {
-        Gate::Shut(why) => unpassed(pod, why),
-        Gate::Open => {
-            let input = pod.pipe.input;
-            let output = pod.pipe.output;
-            passed(pod, input.timeout(), output.timeout())
-        }
-    }
-}
-
-fn eight(bytes: &[u8]) -> [u8; 8]
-    requires { length bytes.now ≡ 8 }
-    ensures { result ≡ bytes.now }
-{
-    [
-        bytes[0], bytes[1], bytes[2], bytes[3], bytes[4], bytes[5], bytes[6], bytes[7],
-    ]
+    pipe_gate(pod)?;
+    let piped = pod.pipe.input.timeout();
+    pod.pipe.input = piped.input;
+    pod.pipe.output = pod.pipe.output.timeout();
+    Ok(piped.sent)
 }
 
 // A packet of eight from the aircraft for the camera: its first byte is shown.
-pub fn packet_out(pod: Pod, bytes: &[u8]) -> Passed
-    ensures { out (answer_said result.answer) result.pod result.sent ≡ lone_call (pipe (packet_out bytes.now)) pod }
+pub fn packet_out(pod: &mut Pod, bytes: &[u8]) -> Result<Sent, Refusal>
+    ensures { out (said (λ _. done) result) pod.new (sent_in result) ≡ lone_call (pipe (packet_out bytes.now)) pod.old }
 {
-    let gate = out_gate(pod, bytes);
-    match gate {
-        Gate::Shut(why) => unpassed(pod, why),
-        Gate::Open => {
-            let output = pod.pipe.output;
-            handed(pod, output.packet(eight(bytes)))
-        }
-    }
+    let packet = out_gate(pod, bytes)?;
+    let handed = pod.pipe.output.packet(packet);
+    pod.pipe.output = handed.output;
+    Ok(handed.sent)
 }
 
 // The camera took the byte being shown: the next is shown, where there is one.
-pub fn taken(pod: Pod) -> Passed
-    ensures { out (answer_said result.answer) result.pod result.sent ≡ lone_call (pipe taken) pod }
+pub fn taken(pod: &mut Pod) -> Result<Sent, Refusal>
+    ensures { out (said (λ _. done) result) pod.new (sent_in result) ≡ lone_call (pipe taken) pod.old }
 {
-    let gate = pipe_gate(pod);
-    match gate {
-        Gate::Shut(why) => unpassed(pod, why),
-        Gate::Open => {
-            let output = pod.pipe.output;
-            handed(pod, output.taken())
-        }
-    }
+    pipe_gate(pod)?;
+    let handed = pod.pipe.output.taken();
+    pod.pipe.output = handed.output;
+    Ok(handed.sent)
 }

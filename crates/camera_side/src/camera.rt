@@ -1,53 +1,41 @@
 // The camera's blocks.
 ghost use Rattle.std.specs.Prelude.{◌≡◌};
 ghost use Rattle.rows.specs.Rows.{out};
-ghost use Rattle.rules.specs.Refusals.{answer_said};
+ghost use Rattle.rules.specs.Refusals.{done, said};
 ghost use Rattle.rules.specs.Calls.{put_rows, put_call};
 ghost use Rattle.gates.specs.Gates.{Gated};
 
 use blocks::Store;
-use commands::{ring_of, sound, with_ring};
-use gates::Gate;
-use rules::{Answer, Called, Pod, Refusal};
+use commands::{judge, ring_of, set_ring};
+use rules::{Pod, Refusal};
 
-fn put_gate(pod: Pod, which: Store, store: &[u8], block: &[u8]) -> Gate
-    ensures { Gated result (put_rows which block.now store.now pod) }
+#[tactic(auto, using(gates::proofs::Told::gating), unfolding(rules::specs::Refusals::refusal_number))]
+fn put_gate(pod: &Pod, which: Store, store: &[u8], block: &[u8]) -> Result<(), Refusal>
+    ensures { Gated result (put_rows which block.now store.now pod.now) }
 {
     if !blocks::sized(which, store) {
-        return Gate::Shut(Refusal::Size);
+        return Err(Refusal::Size);
     }
-    if !sound(pod) {
-        return Gate::Shut(Refusal::State);
-    }
+    judge(pod)?;
     if block.len() != blocks::BLOCK {
-        return Gate::Shut(Refusal::Count);
+        return Err(Refusal::Count);
     }
     if !pod.initialised {
-        return Gate::Shut(Refusal::Asleep);
+        return Err(Refusal::Asleep);
     }
     if ring_of(pod, which).waiting >= blocks::capacity(which) {
-        return Gate::Shut(Refusal::Full);
+        return Err(Refusal::Full);
     }
-    Gate::Open
+    Ok(())
 }
 
 // A block goes behind the others of its store.
-pub fn put(pod: Pod, which: Store, store: &mut [u8], block: &[u8]) -> Called
-    ensures { out (answer_said result.answer) result.pod store.new ≡ put_call which block.now store.old pod }
+#[tactic(auto, using(gates::proofs::Told::calling, gates::proofs::Fits::fitting), unfolding(rules::specs::Refusals::said, rules::specs::Calls::put_call))]
+pub fn put(pod: &mut Pod, which: Store, store: &mut [u8], block: &[u8]) -> Result<(), Refusal>
+    ensures { out (said (λ _. done) result) pod.new store.new ≡ put_call which block.now store.old pod.old }
 {
-    let gate = put_gate(pod, which, store, block);
-    match gate {
-        Gate::Shut(why) => Called {
-            answer: Answer::Refused(why),
-            pod,
-        },
-        Gate::Open => {
-            let ring = ring_of(pod, which);
-            let more = blocks::put(blocks::capacity(which), ring, store, block);
-            Called {
-                answer: Answer::Done,
-                pod: with_ring(pod, which, more),
-            }
-        }
-    }
+    put_gate(pod, which, store, block)?;
+    let more = blocks::put(blocks::capacity(which), ring_of(pod, which), store, block);
+    set_ring(pod, which, more);
+    Ok(())
 }

@@ -1,18 +1,25 @@
 -- What is promised of a command that is obeyed: its definition in `rules`, whatever is lent.
 -- Assumes nothing.
-use Rattle.std.specs.Prelude.{◌≡◌, false, cond}
+use Rattle.std.specs.Prelude.{◌≡◌, true, false, MatchResult, Result}
 use Rattle.rows.specs.Rows.{out}
 use Rattle.packets.specs.declared.Command.{Command}
-use Rattle.tables.specs.Tables.{starts}
-use Rattle.rules.specs.declared.Obeyed.{Obeyed}
 use Rattle.rules.specs.declared.Pod.{Pod}
 use Rattle.rules.specs.declared.Reply.{Reply}
-use Rattle.rules.specs.State.{Lent, with_tables}
+use Rattle.rules.specs.declared.Failure.{Failure}
+use Rattle.rules.specs.declared.Failure.TheVariants.{Asleep}
+use Rattle.rules.specs.declared.Refusal.{Refusal}
+use Rattle.rules.specs.declared.Refusal.TheVariants.{State}
+use Rattle.rules.specs.State.{Lent, sound_pod}
 use Rattle.rules.specs.Obey.{reply_said, obey_of}
 
--- a reply with the next state, the tables as they were
-abbrev pub obeyed : Reply → Pod → Obeyed
-obeyed r p = record { reply = r; pod = p; restart = false }
+-- the check of a pod that is to be awake: the failure is that it is asleep
+abbrev pub Awake : Result (Unit {0}) Failure → Pod → Type 0
+Awake r p = MatchResult r (λ _. p.initialised ≡ true) (λ f. (f ≡ Asleep) × (p.initialised ≡ false))
 
-abbrev pub Does : Obeyed → Command → Pod → Type 0
-Does r c p = (l : Lent) → out (reply_said r.reply) r.pod (cond r.restart (with_tables starts l) l) ≡ obey_of c l p
+-- the row of a pod whose state is to be within its bounds: the refusal is of the state
+abbrev pub Judged : Result (Unit {0}) Refusal → Pod → Type 0
+Judged r p = MatchResult r (λ _. sound_pod p ≡ true) (λ why. (why ≡ State) × (sound_pod p ≡ false))
+
+-- a command that leaves all that is lent
+abbrev pub Does : Result Reply Failure → Pod → Command → Pod → Type 0
+Does r q c p = (l : Lent) → out (reply_said r) q l ≡ obey_of c l p

@@ -1,81 +1,85 @@
 // What an acknowledgement does to the pod: it closes the exchange, and the block that was shown goes.
-ghost use Rattle.std.specs.Prelude.{◌≡◌, true, ◌-◌, ◌<◌};
+ghost use Rattle.std.specs.Prelude.{◌≡◌, true, ◌-◌, ◌<◌, eqb, ◌||◌, ◌⊎◌, MatchOption};
+ghost use Rattle.packets.specs.Codes.{code_number};
 ghost use Rattle.blocks.specs.Stores.{capacity_of, sound_ring};
+ghost use Rattle.rules.specs.declared.Exchange.TheVariants.{Closed};
 ghost use Rattle.rules.specs.State.{ring_of, remaining_of, with_remaining, sound_pod};
 ghost use Rattle.rules.specs.Obey.{exchange_code, drop_from, settled, acknowledged_of};
 
-use crate::changes::{remaining_of, ring_of, shut, with_fields, with_ring};
+use crate::changes::{remaining_of, ring_of, set_ring, shut};
 use blocks::Store;
-use packets::Fields;
+use packets::{Code, Fields};
 use rules::{Exchange, Pod};
 
-// The code of the command whose exchange is open, 0 for none.
-fn code(exchange: Exchange) -> u8
-    ensures { result ≡ exchange_code exchange }
+// The code of the command whose exchange is open.
+// By a match, at its one place: a `From` between the two would have the same arms.
+#[tactic(auto, unfolding(packets::specs::Codes::code_number, packets::specs::Commands::command_row, packets::specs::Commands::command_place))]
+fn open(exchange: Exchange) -> Option<Code>
+    ensures { MatchOption result (exchange ≡ Closed) (λ code. code_number code ≡ exchange_code exchange) }
 {
     match exchange {
-        Exchange::Closed => 0,
-        Exchange::Status => 0x91,
-        Exchange::Read => 0x94,
-        Exchange::Receive(which) => match which {
-            Store::Priority => 0x95,
-            Store::Ordinary => 0x96,
-        },
+        Exchange::Closed => None,
+        Exchange::Status => Some(Code::Status),
+        Exchange::Read => Some(Code::Read),
+        Exchange::Receive(Store::Priority) => Some(Code::Priority),
+        Exchange::Receive(Store::Ordinary) => Some(Code::Data),
     }
 }
 
-fn one_less(fields: Fields, which: Store) -> Fields
-    requires { 0 < remaining_of which fields }
-    ensures { result ≡ with_remaining which (remaining_of which fields - 1) fields }
+// An arm for each store's own field, as `with_remaining` has it.
+fn one_less(fields: &mut Fields, which: Store)
+    requires { 0 < remaining_of which fields.old }
+    ensures { fields.new ≡ with_remaining which (remaining_of which fields.old - 1) fields.old }
 {
-    let mut next = fields;
     match which {
-        Store::Priority => {
-            next.priorityremaining = fields.priorityremaining - 1;
-            next
-        }
-        Store::Ordinary => {
-            next.memoryremaining = fields.memoryremaining - 1;
-            next
-        }
+        Store::Priority => fields.priorityremaining -= 1,
+        Store::Ordinary => fields.memoryremaining -= 1,
     }
 }
 
 // The oldest block goes, and one fewer remains; were there none of either, neither would change.
-fn drop_from(pod: Pod, which: Store) -> Pod
-    requires { sound_ring (capacity_of which) (ring_of which pod) ≡ true }
-    ensures { result ≡ drop_from which pod }
+#[tactic(auto, unfolding(rules::specs::Obey::drop_from))]
+fn drop_from(pod: &mut Pod, which: Store)
+    requires { sound_ring (capacity_of which) (ring_of which pod.old) ≡ true }
+    ensures { pod.new ≡ drop_from which pod.old }
 {
     let ring = ring_of(pod, which);
-    let fields = pod.fields;
-    if (ring.waiting == 0) | (remaining_of(fields, which) == 0) {
-        return pod;
+    if ring.waiting == 0 || remaining_of(&pod.fields, which) == 0 {
+        return;
     }
-    let next = blocks::dropped(blocks::capacity(which), ring);
-    with_ring(with_fields(pod, one_less(fields, which)), which, next)
+    one_less(&mut pod.fields, which);
+    set_ring(pod, which, blocks::dropped(blocks::capacity(which), ring));
 }
 
 // A receive's acknowledgement takes the block.
-fn settle(pod: Pod, exchange: Exchange) -> Pod
-    requires { sound_pod pod ≡ true }
-    ensures { result ≡ settled exchange pod }
+#[tactic(auto, using(rules::proofs::Inside::ring_in, rules::proofs::Inside::pod_in), unfolding(rules::specs::Obey::settled))]
+fn settle(pod: &mut Pod)
+    requires { sound_pod pod.old ≡ true }
+    ensures { pod.new ≡ settled pod.old.exchange pod.old }
 {
-    match exchange {
-        Exchange::Closed => pod,
-        Exchange::Status => pod,
-        Exchange::Read => pod,
-        Exchange::Receive(which) => drop_from(pod, which),
+    if let Exchange::Receive(which) = pod.exchange {
+        drop_from(pod, which);
     }
 }
 
-// 0x90 counts as the code of whichever exchange is open.
-pub fn acknowledged(pod: Pod, first: u8, one: bool) -> Pod
-    requires { sound_pod pod ≡ true }
-    ensures { result ≡ acknowledged_of first one pod }
+// Whether an acknowledgement's first byte closes this exchange as its own code would: 0x90 counts as the code of whichever is open.
+fn closes(first: u8, exchange: Exchange) -> bool
+    ensures { exchange ≡ Closed ⊎ (result ≡ (eqb first (exchange_code exchange) || eqb first 0x90)) }
 {
-    let exchange = pod.exchange;
-    if one & ((first == code(exchange)) | (first == 0x90)) {
-        return shut(settle(pod, exchange));
+    match open(exchange) {
+        Some(code) => first == u8::from(code) || first == 0x90,
+        None => false,
     }
-    shut(pod)
+}
+
+// Only the 0x01 form takes what was shown; either form closes the exchange.
+#[tactic(auto, unfolding(rules::specs::Obey::acknowledged_of, rules::specs::Obey::matches, rules::specs::Obey::settled))]
+pub fn acknowledged(pod: &mut Pod, first: u8, one: bool)
+    requires { sound_pod pod.old ≡ true }
+    ensures { pod.new ≡ acknowledged_of first one pod.old }
+{
+    if one && closes(first, pod.exchange) {
+        settle(pod);
+    }
+    shut(pod);
 }

@@ -6,6 +6,7 @@ use packets::Fields;
 use pipe::Pipe;
 use rules::{Exchange, Pod};
 
+#[tactic(auto, unfolding(rules::specs::State::fresh_fields))]
 fn fresh_fields() -> Fields
     ensures { result ≡ fresh_fields }
 {
@@ -22,6 +23,7 @@ fn fresh_fields() -> Fields
     }
 }
 
+#[tactic(auto, unfolding(rules::specs::State::fresh_pod))]
 pub fn fresh_pod() -> Pod
     ensures { result ≡ fresh_pod }
 {

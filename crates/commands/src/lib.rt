@@ -1,4 +1,5 @@
-// The pod by value: its bounds, the state with one part changed, what a command and an acknowledgement do to it.
+// The pod that a call is lent: its bounds, and what a command and an acknowledgement do to it. That it is sound is asked of what comes
+// after row 3, and is no invariant of the type: callers hand in any state.
 #![tactic(auto)]
 
 mod acknowledge;
@@ -8,7 +9,7 @@ mod fresh;
 mod obeying;
 
 pub use acknowledge::acknowledged;
-pub use bounds::sound;
-pub use changes::{ring_of, shut, with_exchange, with_params, with_pipe, with_ring, with_words};
+pub use bounds::{judge, sound};
+pub use changes::{ring_of, set_ring, shut};
 pub use fresh::fresh_pod;
 pub use obeying::{obey, report};

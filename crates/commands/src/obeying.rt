@@ -1,141 +1,114 @@
-// What a command does to the pod: checks 7 to 9, and no bytes. A function by value for each command, with its checks in their order.
-ghost use Rattle.std.specs.Prelude.{◌≡◌, true, cond};
+// What a command does to the pod: checks 7 to 9, and no bytes. A function for each command, with its checks in their order; where one
+// fails, nothing has changed.
+#![tactic(auto, unfolding(rows::specs::Rows::ran, rules::specs::Obey::reply_said, rules::specs::Obey::failure_number, rules::specs::Obey::obey_of, rules::specs::Obey::checks_of, rules::specs::Obey::done_by, rules::specs::Obey::initialised_pod, params::specs::Rules::write_of, params::specs::Rules::value_read))]
+
+ghost use Rattle.std.specs.Prelude.{◌≡◌, true};
 ghost use Rattle.rows.specs.Rows.{out};
-ghost use Rattle.tables.specs.Tables.{starts};
+ghost use Rattle.tables.specs.Lent.{held, SameTables};
 ghost use Rattle.rules.specs.State.{Lent, with_tables, sound_pod};
 ghost use Rattle.rules.specs.Obey.{reply_said, receives, obey_of, report_of};
-ghost use Rattle.commands.specs.Does.{obeyed, Does};
+ghost use Rattle.commands.specs.Does.{Does, Awake};
 
-use crate::changes::{
-    remaining_of, ring_of, with_exchange, with_fields, with_initialised, with_params, with_words,
-};
+use crate::changes::{remaining_of, ring_of};
 use crate::fresh::fresh_pod;
 use blocks::Store;
 use packets::{Command, Fields, Report};
-use params::Reading;
-use rules::{Exchange, Obeyed, Pod, Reply};
+use rules::{Exchange, Failure, Pod, Reply};
+use tables::Tables;
 
-// The errors of checks 7 to 9.
-const ASLEEP: u8 = 0x38;
-
-const OUTSIDE: u8 = 0x39;
-
-const NOTHING: u8 = 0x3A;
-
-const SPENT: u8 = 0x3B;
-
-// The tables stay as they are.
-fn replied(pod: Pod, reply: Reply) -> Obeyed
-    ensures { result ≡ obeyed reply pod }
+// Check 7.
+fn awake(pod: &Pod) -> Result<(), Failure>
+    ensures { Awake result pod.now }
 {
-    Obeyed {
-        reply,
-        pod,
-        restart: false,
+    if pod.initialised {
+        Ok(())
+    } else {
+        Err(Failure::Asleep)
     }
 }
 
-fn initialise(pod: Pod, fields: Fields) -> Obeyed
-    ensures { Does result (Command.Initialise fields) pod }
+// The pod and the tables as from power, then awake with these fields.
+fn initialise(pod: &mut Pod, tables: &mut Tables, fields: Fields) -> Result<Reply, Failure>
+    ensures same { SameTables tables.old tables.new }
+    ensures does { (l : Lent) → out (reply_said result) pod.new (with_tables (held tables.new) l) ≡ obey_of (Command.Initialise fields) (with_tables (held tables.old) l) pod.old }
 {
     if !packets::bounded(fields) {
-        return replied(pod, Reply::Failure(OUTSIDE));
+        return Err(Failure::Outside);
     }
-    let next = with_fields(with_initialised(fresh_pod(), true), fields);
-    Obeyed {
-        reply: Reply::Success,
-        pod: next,
-        restart: true,
-    }
+    *pod = fresh_pod();
+    pod.initialised = true;
+    pod.fields = fields;
+    tables.restart();
+    Ok(Reply::Success)
 }
 
-fn status(pod: Pod) -> Obeyed
-    ensures { Does result Command.Status pod }
+fn status(pod: &mut Pod) -> Result<Reply, Failure>
+    ensures { Does result pod.new Command.Status pod.old }
 {
-    if !pod.initialised {
-        return replied(pod, Reply::Failure(ASLEEP));
-    }
-    replied(with_exchange(pod, Exchange::Status), Reply::Report)
+    awake(pod)?;
+    pod.exchange = Exchange::Status;
+    Ok(Reply::Report)
 }
 
-fn update(pod: Pod, fields: Fields) -> Obeyed
-    ensures { Does result (Command.Update fields) pod }
+fn update(pod: &mut Pod, fields: Fields) -> Result<Reply, Failure>
+    ensures { Does result pod.new (Command.Update fields) pod.old }
 {
-    if !pod.initialised {
-        return replied(pod, Reply::Failure(ASLEEP));
-    }
+    awake(pod)?;
     if !packets::bounded(fields) {
-        return replied(pod, Reply::Failure(OUTSIDE));
+        return Err(Failure::Outside);
     }
-    replied(with_fields(pod, fields), Reply::Success)
+    pod.fields = fields;
+    Ok(Reply::Success)
 }
 
-fn write(pod: Pod, id: u8, value: i32) -> Obeyed
-    ensures { Does result (Command.Write id value) pod }
+fn write(pod: &mut Pod, id: u8, value: i32) -> Result<Reply, Failure>
+    ensures { Does result pod.new (Command.Write id value) pod.old }
 {
-    if !pod.initialised {
-        return replied(pod, Reply::Failure(ASLEEP));
-    }
-    let params = pod.params;
-    let wrote = params::write(params, id, value);
-    if !wrote.taken {
-        return replied(pod, Reply::Failure(OUTSIDE));
-    }
-    let stored = wrote.params;
-    replied(with_params(pod, stored), Reply::Success)
+    awake(pod)?;
+    pod.params = params::write(&pod.params, id, value).ok_or(Failure::Outside)?;
+    Ok(Reply::Success)
 }
 
-fn read(pod: Pod, id: u8) -> Obeyed
-    ensures { Does result (Command.Read id) pod }
+fn read(pod: &mut Pod, id: u8) -> Result<Reply, Failure>
+    ensures { Does result pod.new (Command.Read id) pod.old }
 {
-    if !pod.initialised {
-        return replied(pod, Reply::Failure(ASLEEP));
-    }
-    let params = pod.params;
-    let value = params::value(params, id);
-    match value {
-        Reading::Unknown => replied(pod, Reply::Failure(OUTSIDE)),
-        Reading::Held(v) => replied(with_exchange(pod, Exchange::Read), Reply::Value(id, v)),
-    }
+    awake(pod)?;
+    let value = params::value(&pod.params, id).ok_or(Failure::Outside)?;
+    pod.exchange = Exchange::Read;
+    Ok(Reply::Value(id, value))
 }
 
 // The oldest block is sent, and kept until it is acknowledged.
-fn receive(pod: Pod, which: Store) -> Obeyed
-    ensures { Does result (receives which) pod }
+fn receive(pod: &mut Pod, which: Store) -> Result<Reply, Failure>
+    ensures { Does result pod.new (receives which) pod.old }
 {
-    if !pod.initialised {
-        return replied(pod, Reply::Failure(ASLEEP));
+    awake(pod)?;
+    if ring_of(pod, which).waiting == 0 {
+        return Err(Failure::Nothing);
     }
-    let ring = ring_of(pod, which);
-    if ring.waiting == 0 {
-        return replied(pod, Reply::Failure(NOTHING));
+    if remaining_of(&pod.fields, which) == 0 {
+        return Err(Failure::Spent);
     }
-    let fields = pod.fields;
-    if remaining_of(fields, which) == 0 {
-        return replied(pod, Reply::Failure(SPENT));
-    }
-    replied(
-        with_exchange(pod, Exchange::Receive(which)),
-        Reply::Block(which),
-    )
+    pod.exchange = Exchange::Receive(which);
+    Ok(Reply::Block(which))
 }
 
-fn shutdown(pod: Pod) -> Obeyed
-    ensures { Does result Command.Shutdown pod }
+fn shutdown(pod: &mut Pod) -> Result<Reply, Failure>
+    ensures { Does result pod.new Command.Shutdown pod.old }
 {
-    if !pod.initialised {
-        return replied(pod, Reply::Failure(ASLEEP));
-    }
-    let words = pod.words;
-    let closed = with_words(pod, tables::close(words));
-    replied(with_initialised(closed, false), Reply::Success)
+    awake(pod)?;
+    tables::close(&mut pod.words);
+    pod.initialised = false;
+    Ok(Reply::Success)
 }
 
-pub fn obey(pod: Pod, command: Command) -> Obeyed
-    ensures { (l : Lent) → out (reply_said result.reply) result.pod (cond result.restart (with_tables starts l) l) ≡ obey_of command l pod }
+#[tactic(auto)]
+pub fn obey(pod: &mut Pod, tables: &mut Tables, command: Command) -> Result<Reply, Failure>
+    ensures same { SameTables tables.old tables.new }
+    ensures does { (l : Lent) → out (reply_said result) pod.new (with_tables (held tables.new) l) ≡ obey_of command (with_tables (held tables.old) l) pod.old }
 {
     match command {
-        Command::Initialise(fields) => initialise(pod, fields),
+        Command::Initialise(fields) => initialise(pod, tables, fields),
         Command::Status => status(pod),
         Command::Update(fields) => update(pod, fields),
         Command::Write(id, value) => write(pod, id, value),
@@ -147,17 +120,16 @@ pub fn obey(pod: Pod, command: Command) -> Obeyed
 }
 
 // What a status answer shows.
-pub fn report(pod: Pod) -> Report
-    requires { sound_pod pod ≡ true }
-    ensures { result ≡ report_of pod }
+#[tactic(auto, unfolding(rules::specs::Obey::report_of))]
+pub fn report(pod: &Pod) -> Report
+    requires { sound_pod pod.now ≡ true }
+    ensures { result ≡ report_of pod.now }
 {
-    let params = pod.params;
-    let ids = params.missing;
     Report {
         mode: pod.fields.mode,
         flags: pod.fields.flags,
         priority: pod.priority.waiting as u16,
         ordinary: pod.ordinary.waiting as u32,
-        ids,
+        ids: pod.params.missing,
     }
 }

@@ -1,13 +1,16 @@
 -- The bytes of a number: cut in two, joined, and into the register.
 use mathlib.Core.Path.{◌≡◌, refl, sym, ap, ◌∙◌}
 use mathlib.Core.List.{List, [], ◌∷◌, ◌++◌, append_assoc, append-nil}
-use Prim.Native.Nat.{ℕ, zero, suc, ◌+◌, ◌*◌, ◌/◌, ◌%◌, ◌^◌, ◌<◌, ◌≤◌}
-use native.Mathlib.Nat.{add_comm, zero-add, suc-add, mul_assoc, add-mul}
+use Prim.Native.Nat.{ℕ, zero, suc, ◌+◌, ◌*◌, ◌/◌, ◌%◌, ◌^◌, ◌<◌}
+use native.Mathlib.Nat.{add_comm, zero-add, suc-add, zero-mul, suc-mul}
 use native.Mathlib.Omega.{arith}
-use lib.Bits.{bit_or, or_shifted, bit_xor, xor_shr, xor_mod}
-use lib.ListN.{length, get_or, take, drop, take-append-drop}
-use lib.Seq.{drop-cons, drop-drop}
-use lib.Pow.{pow-add, shl_exact, shl_lt, shr-shr, field, mod-mod-pow, high, low}
+use lib.Bits.{bit_xor, xor_shr, xor_mod}
+use lib.ListN.{get_or, take, drop, take-append-drop}
+use Rattle.std.proofs.lemmas.List.{get_or-drop}
+use lib.Seq.{drop-drop}
+use lib.Pow.{shr-shr, field, mod-mod-pow, high, low}
+use Rattle.std.specs.Int.{w16, w64, to_be_bytes}
+use Rattle.std.specs.Simd.{first_chunks}
 use Rattle.crc.specs.Crc.{crc_from}
 use Rattle.crc.specs.Bytes.{crc_bytes}
 use Rattle.crc.proofs.Register.{byte_in-xor, from-none, from_one, from-append}
@@ -27,12 +30,6 @@ cut (suc n) m w =
     let low_part : w / 256 % 2 ^ (n * 8) ≡ w % 2 ^ (suc n * 8) / 256 = rw up (sym (field w (n * 8) 8)) in
     let last : w % 256 ≡ w % 2 ^ (suc n * 8) % 256 = rw up (sym (mod-mod-pow w (n * 8) 8)) in
     rw (suc-add, cut n m (w / 256), high_part, low_part, last, append_assoc)
-
--- a byte set behind a number by a shift of k and `or`, the number being shifted already
-pub beside : (k u b : ℕ) {n : ℕ} → b < 256 → 8 + k ≤ 64 → n ≡ u * 2 ^ (8 + k) → bit_or n (b * 2 ^ k % 2 ^ 64) ≡ (u * 256 + b) * 2 ^ k
-beside k u b h l e =
-    rw (e, shl_exact {a = b} 8 k 64 h l, or_shifted u (8 + k) (b * 2 ^ k) (shl_lt {a = b} 8 k h), pow-add 2 8 k, ← mul_assoc u 256 (2 ^ k))
-    (sym (add-mul (u * 256) b (2 ^ k)))
 
 -- and then the last of its bytes
 pub last_byte : (n u b : ℕ) → b < 256 → crc_bytes (suc n) (u * 256 + b) ≡ crc_bytes n u ++ (b ∷ [])
@@ -54,14 +51,39 @@ both-xor (suc n) a b v w =
 
 -- ---- the bytes of a list
 
--- what stands at n places from i on
-abbrev pub places : ℕ → ℕ → List ℕ → List ℕ
-places zero i l = []
-places (suc n) i l = get_or l i 0 ∷ places n (suc i) l
+-- the library's bytes of a number
+pub two_bytes : (w : ℕ) → crc_bytes 2 w ≡ to_be_bytes w16 w
+unfolding crc_bytes
+two_bytes w = refl
 
-pub places_are : (n i : ℕ) (l : List ℕ) → i + n ≤ length l → places n i l ≡ take n (drop i l)
-places_are zero i l h = refl
-places_are (suc n) i l h = rw (drop-cons l i 0 (omega arith), places_are n (suc i) l (omega arith))
+pub eight_bytes : (w : ℕ) → crc_bytes 8 w ≡ to_be_bytes w64 w
+unfolding crc_bytes
+eight_bytes w =
+    let a2 : w / 256 / 256 ≡ w / 256 ^ 2 = omega arith in
+    let a3 : w / 256 ^ 2 / 256 ≡ w / 256 ^ 3 = omega arith in
+    let a4 : w / 256 ^ 3 / 256 ≡ w / 256 ^ 4 = omega arith in
+    let a5 : w / 256 ^ 4 / 256 ≡ w / 256 ^ 5 = omega arith in
+    let a6 : w / 256 ^ 5 / 256 ≡ w / 256 ^ 6 = omega arith in
+    let a7 : w / 256 ^ 6 / 256 ≡ w / 256 ^ 7 = omega arith in
+    simp (a2, a3, a4, a5, a6, a7)
+
+-- the chunks of a list, each at its place
+pub chunk_at : {X : Type 0} → (n k i : ℕ) (l : List X) → i < k → get_or (first_chunks n k l) i [] ≡ take n (drop (i * n) l)
+chunk_at n zero i l h = absurd (omega arith)
+chunk_at n (suc k) zero l h = rw zero-mul
+chunk_at n (suc k) (suc i) l h =
+    let e : suc i * n ≡ n + i * n = suc-mul i n ∙ add_comm (i * n) n in
+    rw e (chunk_at n k i (drop n l) (omega arith) ∙ ap (take n) (drop-drop (i * n) n l))
+
+-- a part of bytes is bytes
+take_fits : (n i : ℕ) (l : List ℕ) → ((k : ℕ) → get_or l k 0 < 256) → get_or (take n l) i 0 < 256
+take_fits zero i l f = omega arith
+take_fits (suc n) i [] f = omega arith
+take_fits (suc n) zero (x ∷ l) f = f 0
+take_fits (suc n) (suc i) (x ∷ l) f = take_fits n i l (λ k. f (suc k))
+
+pub part_fits : (n i j : ℕ) (l : List ℕ) → ((k : ℕ) → get_or l k 0 < 256) → get_or (take n (drop i l)) j 0 < 256
+part_fits n i j l f = take_fits n j (drop i l) (λ k. rw get_or-drop (f (i + k)))
 
 -- n bytes more of a list
 pub more : (n c : ℕ) (l : List ℕ) (i : ℕ) → crc_from c (drop i l) ≡ crc_from (crc_from c (take n (drop i l))) (drop (i + n) l)

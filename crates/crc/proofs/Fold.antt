@@ -1,16 +1,22 @@
 -- The shifts of the code: each is a linear function, and so equal to what the register does once it is at the powers of 2.
 use mathlib.Core.Path.{◌≡◌, refl, sym, ap, ap₂, ◌∙◌}
-use mathlib.Core.List.{[], ◌∷◌}
-use Prim.Native.Nat.{ℕ, ◌+◌, ◌*◌, ◌/◌, ◌%◌, ◌^◌, ◌<◌}
+use mathlib.Core.List.{List, [], ◌∷◌}
+use Prim.Native.Nat.{ℕ, ◌+◌, ◌-◌, ◌*◌, ◌/◌, ◌%◌, ◌^◌, ◌<◌, ◌≤◌}
 use native.Mathlib.Omega.{arith}
 use lib.Bits.{bit_xor, xor_zero_r, xor_lt, xor_shr, xor_mod}
+use lib.ListN.{length, get_or, take, drop, length-take, length-drop, drop_of_length-le}
 use lib.Pow.{high, low}
-use Rattle.crc.specs.Crc.{poly, leaving, bit_in, bits, bits_in, crc_from}
+use lib.Seq.{drop-drop}
+use native.Mathlib.Nat.{zero-add}
+use Rattle.std.specs.Int.{w16, w64, from_be_bytes}
+use Rattle.std.specs.Simd.{first_chunks}
+use Rattle.std.proofs.lemmas.Nat.{be_bytes_2, be_bytes_8}
+use Rattle.crc.specs.Crc.{poly, leaving, bit_in, bits, bits_in, crc_from, crc_of}
 use Rattle.crc.specs.Bytes.{crc_bytes}
 use Rattle.crc.proofs.Linear.{Linear, Shifts, shifts, linear, shifts_fit, basis}
 use Rattle.crc.proofs.Linear.Shifts.{plain, down, low as digits, up, sum}
-use Rattle.crc.proofs.Register.{byte_in, byte_in-xor, from_one}
-use Rattle.crc.proofs.Bytes.{both-xor}
+use Rattle.crc.proofs.Register.{byte_in, byte_in-xor, from-none, from_one}
+use Rattle.crc.proofs.Bytes.{both-xor, two_bytes, eight_bytes, chunk_at, part_fits, more}
 
 -- ---- one byte, by the shifts of `one`. A register and a byte are one number of 24 bits here
 
@@ -114,3 +120,45 @@ eight_fits s w h l = xor_lt 64 (raise 4 s) w (shifts_fit 64 (rest 4 (quotient 4 
 pub started : fold 33999 ≡ 65535
 unfolding fold crc_bytes crc_from bits_in bits bit_in leaving poly
 started = refl
+
+-- ---- the code's steps: what the register stands for, once more bytes of a list have come in
+
+come : (n c at k : ℕ) (bytes part : List ℕ) → part ≡ take n (drop at bytes) → k ≡ at + n → crc_from c (drop at bytes) ≡ crc_of bytes
+    → crc_from (crc_from c part) (drop k bytes) ≡ crc_of bytes
+come n c at k bytes part p e h = rw (p, e) (sym (more n c bytes at) ∙ h)
+
+-- the next chunk of the bytes from a place on, which all stand in the list
+chunk : (n at i : ℕ) (bytes rest : List ℕ) (chunks : List (List ℕ)) → rest ≡ drop at bytes → chunks ≡ first_chunks n (length rest / n) rest
+    → i < length rest / n → get_or chunks i [] ≡ take n (drop (at + i * n) bytes)
+chunk n at i bytes rest chunks r e h =
+    let there : drop (i * n) rest ≡ drop (at + i * n) bytes = rw r (drop-drop (i * n) at bytes) in
+    ap (λ (cs : List (List ℕ)). get_or cs i []) e ∙ chunk_at n (length rest / n) i rest h ∙ ap (take n) there
+
+pub eight_come : (s w i : ℕ) (bytes : List ℕ) (words : List (List ℕ)) → s < 2 ^ 64 → w < 2 ^ 64 → ((k : ℕ) → get_or bytes k 0 < 256)
+    → words ≡ first_chunks 8 (length bytes / 8) bytes → i < length bytes / 8 → w ≡ from_be_bytes w64 (get_or words i [])
+    → crc_from (fold s) (drop (i * 8) bytes) ≡ crc_of bytes
+    → (bit_xor (raise 4 s) w < 2 ^ 64) × (crc_from (fold (bit_xor (raise 4 s) w)) (drop ((i + 1) * 8) bytes) ≡ crc_of bytes)
+eight_come s w i bytes words hs hw fits ws within e h =
+    let at = i * 8 in
+    let part = take 8 (drop at bytes) in
+    let long : length part ≡ 8 = simp (length-take, length-drop) (omega arith) in
+    let read : w ≡ from_be_bytes w64 part = e ∙ ap (from_be_bytes w64) (rw zero-add at (chunk 8 0 i bytes bytes words refl ws within)) in
+    let whole : crc_bytes 8 w ≡ part = eight_bytes w ∙ be_bytes_8 part w long (λ k. part_fits 8 at k bytes fits) read in
+    (eight_fits s w hs hw, rw (eight_more s w hs) (come 8 (fold s) at ((i + 1) * 8) bytes (crc_bytes 8 w) whole (omega arith) h))
+
+pub two_come : (c w at i : ℕ) (bytes rest : List ℕ) (pairs : List (List ℕ)) → ((k : ℕ) → get_or bytes k 0 < 256) → rest ≡ drop at bytes
+    → pairs ≡ first_chunks 2 (length rest / 2) rest → i < length rest / 2 → w ≡ from_be_bytes w16 (get_or pairs i [])
+    → crc_from c (drop (at + i * 2) bytes) ≡ crc_of bytes
+    → crc_from (crc_from c (crc_bytes 2 w)) (drop (at + (i + 1) * 2) bytes) ≡ crc_of bytes
+two_come c w at i bytes rest pairs fits r ps within e h =
+    let from = at + i * 2 in
+    let part = take 2 (drop from bytes) in
+    let held : length rest ≡ length bytes - at = ap length r ∙ length-drop at bytes in
+    let long : length part ≡ 2 = simp (length-take, length-drop) (omega arith) in
+    let read : w ≡ from_be_bytes w16 part = e ∙ ap (from_be_bytes w16) (chunk 2 at i bytes rest pairs r ps within) in
+    let whole : crc_bytes 2 w ≡ part = two_bytes w ∙ be_bytes_2 part w long (λ k. part_fits 2 from k bytes fits) read in
+    come 2 c from (at + (i + 1) * 2) bytes (crc_bytes 2 w) whole (omega arith) h
+
+-- none is left
+pub all_come : (c k : ℕ) (bytes : List ℕ) → length bytes ≤ k → crc_from c (drop k bytes) ≡ crc_of bytes → c ≡ crc_of bytes
+all_come c k bytes h e = rw (drop_of_length-le, from-none) at e

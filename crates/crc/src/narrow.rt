@@ -1,24 +1,20 @@
 // The register of 16 bits: one byte more, and two and four at once.
-ghost use Rattle.std.specs.Prelude.{◌≡◌, [], ◌∷◌, ◌/◌};
+ghost use Rattle.std.specs.Prelude.{◌≡◌, [], ◌∷◌};
 ghost use Rattle.crc.specs.Crc.{crc_from};
 ghost use Rattle.crc.specs.Bytes.{crc_bytes};
-
-fn high(c: u16) -> u8
-    ensures { result ≡ c / 256 }
-{
-    (c / 256) as u8
-}
 
 // No table: what leaves at the top is put back by shifts.
 pub fn one(c: u16, b: u8) -> u16
     ensures { result ≡ crc_from c (b ∷ []) }
 {
-    let x = high(c) ^ b;
-    let y = (x ^ (x >> 4)) as u16;
+    let x = (c >> 8) as u8 ^ b;
+    let y = u16::from(x ^ (x >> 4));
     (c << 8) ^ y ^ (y << 5) ^ (y << 12)
 }
 
-fn two(c: u16, w: u16) -> u16
+// At its own width, as src/lib.rt says.
+#[tactic(auto, using(crate::proofs::Fold::two_more))]
+pub fn two(c: u16, w: u16) -> u16
     ensures { result ≡ crc_from c (crc_bytes 2 w) }
 {
     let s = c ^ w;
@@ -27,14 +23,9 @@ fn two(c: u16, w: u16) -> u16
     h ^ (h << 5) ^ (h << 12)
 }
 
-pub fn pair(c: u16, a: u8, b: u8) -> u16
-    ensures { result ≡ crc_from c (a ∷ b ∷ []) }
-{
-    two(c, ((a as u16) << 8) | (b as u16))
-}
-
+#[tactic(auto, using(crate::proofs::Bytes::in_two))]
 pub fn four(c: u16, w: u32) -> u16
     ensures { result ≡ crc_from c (crc_bytes 4 w) }
 {
-    two(two(c, (w / 65536) as u16), (w % 65536) as u16)
+    two(two(c, (w >> 16) as u16), (w % 0x1_0000) as u16)
 }

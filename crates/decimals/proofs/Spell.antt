@@ -4,7 +4,7 @@ use Prim.Native.Nat.{ℕ, suc, ◌+◌, ◌<◌, ◌≤◌}
 use native.Mathlib.Omega.{arith}
 use native.Mathlib.Numerals.{add-one}
 use mathlib.Core.Path.{◌≡◌, refl, sym, ap, ◌∙◌}
-use mathlib.Core.List.{List, [], ◌∷◌, ◌++◌, append_assoc, append-nil}
+use mathlib.Core.List.{List, [], ◌∷◌, ◌++◌, map, append_assoc, append-nil}
 use lib.IntN.{ℤ, pos, negsuc}
 use lib.ListN.{length, drop, get_or, drop_of_length-le}
 use lib.Seq.{drop-cons}
@@ -23,6 +23,16 @@ run_on l i h = rw (next l i 0 h)
 pub run_end : (l : List ℕ) (i : ℕ) → length l ≤ i → spelled (naturals (drop i l)) ≡ []
 unfolding spelled
 run_end l i h = rw (drop_of_length-le l {i = i} h)
+
+-- the same of what is printed in decimal
+module _ {A : Type 0} (f : A → ℤ) (l : List A) (i : ℕ) where
+  pub numbers_on : (x : A) → i < length l → x ≡ get_or l i x → spelled (map f (drop i l)) ≡ ((32 ∷ []) ++ signed_text (f x)) ++ spelled (map f (drop (i + 1) l))
+  unfolding spelled
+  numbers_on x h is = rw (next l i x h, sym is)
+
+  pub numbers_end : length l ≤ i → spelled (map f (drop i l)) ≡ []
+  unfolding spelled
+  numbers_end h = rw (drop_of_length-le l {i = i} h)
 
 pub one_spelled : (z : ℤ) → (32 ∷ []) ++ signed_text z ≡ spelled (z ∷ [])
 unfolding spelled

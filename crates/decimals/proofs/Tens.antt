@@ -61,3 +61,17 @@ digits_most (suc k) n =
 pub decimal-most : (n : ℕ) → length (decimal n) ≤ 20
 unfolding decimal
 decimal-most n = digits_most 20 n
+
+-- three for a byte
+one_digit : (k n : ℕ) → n < 10 → length (digits_of (suc k) n) ≤ 1
+unfolding digits_of
+one_digit k n h = rw (lt-ltb n 10 h) (omega arith)
+
+more_digits : (k m n : ℕ) → 1 ≤ m → length (digits_of k (n / 10)) ≤ m → length (digits_of (suc k) n) ≤ m + 1
+unfolding digits_of
+more_digits k m n i h =
+    split (ltb n 10) (λ e. rw e (omega arith)) (λ e. rw e (omega (arith, length-append (digits_of k (n / 10)) ((48 + n % 10) ∷ []), h)))
+
+pub byte-most : (n : ℕ) → n < 256 → length (decimal n) ≤ 3
+unfolding decimal
+byte-most n h = more_digits 19 2 n (omega arith) (more_digits 18 1 (n / 10) (omega arith) (one_digit 17 (n / 10 / 10) (omega arith)))

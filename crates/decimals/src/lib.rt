@@ -4,19 +4,20 @@
 mod printing;
 mod reading;
 
-pub use printing::{put_number, put_one, put_run, put_signed, put_space};
-pub use reading::{NONE, below, numbers_in};
+pub use printing::{Decimal, put_number, put_one, put_run, put_signed};
+pub use reading::{below, numbers_in};
 
-// A number: whether a `-` stands before its digits, and its size.
+// A number: whether a `-` stands before its digits, and its size. The sign stands beside it, since `-0` is no `0` (`number_in`).
 #[derive(Clone, Copy)]
 pub struct Number {
     pub minus: bool,
     pub size: u64,
 }
 
-// How many numbers a text has, and the first nine of them.
+// How many numbers a text has, and the first nine of them: none where what is written is no number. A count beside a list, since there
+// is no heap, and `numbers_read` counts past the ninth.
 #[derive(Clone, Copy)]
 pub struct Numbers {
     pub count: usize,
-    pub list: [Number; 9],
+    pub list: [Option<Number>; 9],
 }

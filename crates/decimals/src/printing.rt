@@ -1,16 +1,56 @@
 // Numbers in decimal, and runs of them, each after one space.
-ghost use Rattle.std.specs.Prelude.{[], ◌∷◌, ◌+◌, ◌*◌, ◌≤◌, length};
-ghost use Rattle.items.specs.Characters.{space};
+ghost use Rattle.std.specs.Prelude.{ℕ, ℤ, pos, [], ◌∷◌, ◌+◌, ◌*◌, ◌≤◌, length, map};
 ghost use Rattle.items.specs.Printed.{decimal};
-ghost use Rattle.decimals.specs.Printing.{signed_text, spelled, naturals, Written};
+ghost use Rattle.items.specs.Output.{Written};
+ghost use Rattle.decimals.specs.Printing.{signed_text, spelled};
 
-use items::append;
-use numbers::unsigned;
+use items::Output;
 
-// The digits go from the right into twenty places.
-pub fn put_number(out: &mut [u8], at: usize, n: u64) -> usize
-    requires { at + 20 ≤ length out.old }
-    ensures { Written (decimal n) 20 at result out.old out.new }
+// What is printed in decimal: which number it is, and in how many characters at the most. No `Display`, which promises no text.
+pub trait Decimal<const N: usize>: Copy {
+    ghost value: { Self → ℤ };
+
+    ghost most: { ℕ };
+
+    fn put(self, out: &mut Output<N>)
+        requires { out.old.at + most ≤ N }
+        ensures { Written (signed_text (value self)) most out.old out.new };
+}
+
+impl<const N: usize> Decimal<N> for u8 {
+    ghost value = { pos };
+
+    ghost most = { 3 };
+
+    fn put(self, out: &mut Output<N>) {
+        put_digits(out, u64::from(self));
+    }
+}
+
+impl<const N: usize> Decimal<N> for u64 {
+    ghost value = { pos };
+
+    ghost most = { 20 };
+
+    fn put(self, out: &mut Output<N>) {
+        put_number(out, self);
+    }
+}
+
+impl<const N: usize> Decimal<N> for i32 {
+    ghost value = { λ z. z };
+
+    ghost most = { 21 };
+
+    fn put(self, out: &mut Output<N>) {
+        put_signed(out, self);
+    }
+}
+
+// The digits go from the right into twenty places: a `for` over the places would need the same test to end.
+fn put_digits<const N: usize>(out: &mut Output<N>, n: u64)
+    requires { out.old.at + length (decimal n) ≤ N }
+    ensures { Written (decimal n) (length (decimal n)) out.old out.new }
 {
     let mut text = [b'0'; 20];
     let mut i: usize = 19;
@@ -21,49 +61,42 @@ pub fn put_number(out: &mut [u8], at: usize, n: u64) -> usize
         i -= 1;
     }
     text[i] = b'0' + rest as u8;
-    append(out, at, &text[i..])
+    out.append(&text[i..]);
 }
 
-// A number that may be below 0, by its 32 bits in two's complement.
-pub fn put_signed(out: &mut [u8], at: usize, v: i32) -> usize
-    requires { at + 21 ≤ length out.old }
-    ensures { Written (signed_text v) 21 at result out.old out.new }
+pub fn put_number<const N: usize>(out: &mut Output<N>, n: u64)
+    requires { out.old.at + 20 ≤ N }
+    ensures { Written (decimal n) 20 out.old out.new }
 {
-    let u = unsigned(v) as u64;
-    if u < 0x8000_0000 {
-        return put_number(out, at, u);
+    put_digits(out, n);
+}
+
+// A number that may be below 0.
+pub fn put_signed<const N: usize>(out: &mut Output<N>, v: i32)
+    requires { out.old.at + 21 ≤ N }
+    ensures { Written (signed_text v) 21 out.old out.new }
+{
+    if v < 0 {
+        out.append(b"-");
     }
-    let behind = append(out, at, &[b'-']);
-    put_number(out, behind, 0x1_0000_0000 - u)
-}
-
-pub fn put_space(out: &mut [u8], at: usize) -> usize
-    requires { at + 1 ≤ length out.old }
-    ensures { Written (space ∷ []) 1 at result out.old out.new }
-{
-    append(out, at, &[b' '])
+    put_number(out, u64::from(v.unsigned_abs()));
 }
 
 // Numbers, each after one space.
-pub fn put_run(out: &mut [u8], at: usize, numbers: &[u64]) -> usize
-    requires { at + 21 * length numbers.now ≤ length out.old }
-    ensures { Written (spelled (naturals numbers.now)) (21 * length numbers.now) at result out.old out.new }
+pub fn put_run<const N: usize, T: Decimal<N>>(out: &mut Output<N>, numbers: &[T])
+    requires { out.old.at + (T.most + 1) * length numbers.now ≤ N }
+    ensures { Written (spelled (map T.value numbers.now)) ((T.most + 1) * length numbers.now) out.old out.new }
 {
-    let mut to = at;
-    let mut i = 0;
-    while i < numbers.len() {
-        let behind = put_space(out, to);
-        to = put_number(out, behind, numbers[i]);
-        i += 1;
+    for n in numbers {
+        out.append(b" ");
+        n.put(out);
     }
-    to
 }
 
 // One that may be below 0, after one space.
-pub fn put_one(out: &mut [u8], at: usize, v: i32) -> usize
-    requires { at + 22 ≤ length out.old }
-    ensures { Written (spelled (v ∷ [])) 22 at result out.old out.new }
+pub fn put_one<const N: usize>(out: &mut Output<N>, v: i32)
+    requires { out.old.at + 22 ≤ N }
+    ensures { Written (spelled (v ∷ [])) 22 out.old out.new }
 {
-    let behind = put_space(out, at);
-    put_signed(out, behind, v)
+    put_run(out, &[v]);
 }

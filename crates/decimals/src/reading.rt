@@ -1,56 +1,48 @@
 // Decimal numbers, one space before each.
 ghost use Rattle.std.specs.Prelude.{◌≡◌};
-ghost use Rattle.decimals.specs.Reading.{is_below, is_digit, digits_in, number_in, numbers_in, numbers_read};
+ghost use Rattle.decimals.specs.Reading.{is_below, digit_in, digits_in, number_in, numbers_in, numbers_read};
 
 use crate::{Number, Numbers};
 
-// A number of ten digits is below it: where a text is no number.
-pub const NONE: u64 = 10_000_000_000;
-
-fn is_digit(c: u8) -> bool
-    ensures { result ≡ is_digit c }
+// A digit's value, as `digit_in` has it: `to_digit` would go from a `char` to 32 bits and back.
+fn digit(c: u8) -> Option<u8>
+    ensures { result ≡ digit_in c }
 {
-    (b'0' <= c) & (c <= b'9')
+    if c.is_ascii_digit() {
+        Some(c - b'0')
+    } else {
+        None
+    }
 }
 
-// The number of 1 to 10 digits.
-fn digits(text: &[u8]) -> u64
+// The number of 1 to 10 digits. No `parse`, which takes a `+` too, and a text of any length: both would be tested here first.
+fn digits(text: &[u8]) -> Option<u64>
     ensures { result ≡ digits_in text.now }
 {
     if !((1 <= text.len()) & (text.len() <= 10)) {
-        return NONE;
+        return None;
     }
     let mut n: u64 = 0;
-    let mut i = 0;
-    while i < text.len() {
-        let c = text[i];
-        if !is_digit(c) {
-            return NONE;
-        }
-        n = n * 10 + ((c - b'0') as u64);
-        i += 1;
+    for c in text {
+        n = n * 10 + u64::from(digit(*c)?);
     }
-    n
+    Some(n)
 }
 
-fn number(text: &[u8]) -> Number
+// A number's digits, behind a `-` where it has one.
+#[tactic(auto, unfolding(crate::specs::Reading::number_in))]
+fn number(text: &[u8]) -> Option<Number>
     ensures { result ≡ number_in text.now }
 {
-    if text.len() == 0 {
-        return Number {
-            minus: false,
-            size: NONE,
-        };
-    }
-    if text[0] == b'-' {
-        return Number {
+    match text {
+        [b'-', rest @ ..] => Some(Number {
             minus: true,
-            size: digits(&text[1..]),
-        };
-    }
-    Number {
-        minus: false,
-        size: digits(text),
+            size: digits(rest)?,
+        }),
+        _ => Some(Number {
+            minus: false,
+            size: digits(text)?,
+        }),
     }
 }
 
@@ -61,25 +53,19 @@ pub fn below(n: Number) -> bool
     n.minus & (0 < n.size)
 }
 
-// The numbers of a text, each after one space.
+// The numbers of a text, each after one space. They are counted past the ninth, which is the last one kept.
 pub fn numbers_in(text: &[u8]) -> Numbers
     ensures { result ≡ numbers_read (numbers_in text.now) }
 {
-    let none = Number {
-        minus: false,
-        size: NONE,
-    };
-    let mut list = [none; 9];
+    let mut list = [None; 9];
     let mut count = 0;
-    let mut from = 0;
-    while from < text.len() {
-        let end = scans::find(text, from + 1, text.len(), b' ');
-        let next = number(&text[from + 1..end]);
-        if count < 9 {
-            list[count] = next;
+    if let [_, rest @ ..] = text {
+        for piece in rest.split(|c| *c == b' ') {
+            if count < 9 {
+                list[count] = number(piece);
+            }
+            count += 1;
         }
-        count += 1;
-        from = end;
     }
     Numbers { count, list }
 }

@@ -33,10 +33,10 @@ bounded_snoc (y ∷ xs) x h l =
     let first : leb y 1023 ≡ true = and_left (leb y 1023) (bounded_of xs) h in
     rw (first, bounded_snoc xs x (and_right (leb y 1023) (bounded_of xs) h) l)
 
--- the first of no samples are bounded
-pub none_over : (xs : List ℕ) → bounded_of (take 0 xs) ≡ true
+-- no samples are bounded
+pub none_over : bounded_of [] ≡ true
 unfolding bounded_of
-none_over xs = refl
+none_over = refl
 
 -- one sample more
 pub one_within : (xs : List ℕ) (k : ℕ) → k < length xs → bounded_of (take k xs) ≡ true → get_or xs k 0 ≤ 1023 → bounded_of (take (k + 1) xs) ≡ true
@@ -45,3 +45,6 @@ one_within xs k h b l = rw (add-one, take-suc xs k 0 h) (bounded_snoc (take k xs
 -- all of them
 pub all_within : (xs : List ℕ) (n : ℕ) → length xs ≡ n → bounded_of (take n xs) ≡ true → bounded_of xs ≡ true
 all_within xs n e b = rw (take_all n xs (omega arith)) at b
+
+-- what a walk over the samples goes by
+pub ruleset walked = (none_over, one_over, one_within, all_within)

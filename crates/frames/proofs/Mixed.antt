@@ -1,11 +1,11 @@
 -- A list that is replaced by another one place after another.
 use Prim.Native.Nat.{ℕ, suc, ◌+◌, ◌<◌}
 use mathlib.Core.Path.{◌≡◌, sym, ap, ◌∙◌}
-use mathlib.Core.List.{List, ◌++◌, append-nil}
+use mathlib.Core.List.{List, ◌++◌}
 use native.Mathlib.Omega.{arith}
 use native.Mathlib.Numerals.{add-one}
-use lib.ListN.{length, take, drop, set, get_or, drop_of_length-le}
-use lib.Seq.{set_at, get_or_at, drop-cons, append_snoc, take-suc, take_all, length-take-le}
+use lib.ListN.{length, take, drop, set, get_or}
+use lib.Seq.{set_at, get_or_at, drop-cons, append_snoc, take-suc, length-take-le}
 
 -- the first k of one list, and the other from there on
 abbrev pub mixed : List ℕ → List ℕ → ℕ → List ℕ
@@ -27,7 +27,3 @@ module _ (ys zs : List ℕ) (n : ℕ) (long : length ys ≡ n) (as_long : length
       ∙ set_at (take k ys) (get_or zs k 0) (drop (suc k) zs) v k (length-take-le k ys (omega arith))
       ∙ sym (append_snoc (take k ys) v (drop (suc k) zs))
       ∙ rw (add-one, take-suc ys k 0 inside, e)
-
-  -- every place
-  pub mixed-all : mixed ys zs n ≡ ys
-  mixed-all = rw (take_all n ys (omega arith), drop_of_length-le zs {i = n} (omega arith)) (append-nil ys)

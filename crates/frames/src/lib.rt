@@ -1,7 +1,7 @@
 // The samples of a survey: their bound, the eight averages, and the two status frames that show them.
 #![tactic(auto)]
 
-ghost use Rattle.std.specs.Prelude.{◌≡◌, true, cond, map, ℕ, ◌+◌, ◌/◌, ◌≤◌, ◌<◌, length};
+ghost use Rattle.std.specs.Prelude.{◌≡◌, true, map, ℕ, ◌+◌, ◌/◌, ◌≤◌, ◌<◌, length};
 ghost use Rattle.frames.specs.Samples.{channels, sum_of, averages_of, bounded_of};
 ghost use Rattle.frames.specs.Fields.{bits_of, frame};
 ghost use Rattle.frames.specs.Layout.{lines03, lines47, frames_of};
@@ -21,7 +21,9 @@ pub struct Frames {
     pub an47: [u8; 8],
 }
 
-// Whether no sample is over 1,023: looked at pass after pass, up to the first that is over.
+// Whether no sample is over 1,023: looked at pass after pass, up to the first that is over. Two loops left by a label, a form that the
+// rules name; that a set is lent as a slice of 128 stays a clause, since callers hand in slices.
+#[tactic(auto, using(crate::proofs::Bounds::walked))]
 pub fn bounded(samples: &[u16]) -> bool
     requires { length samples.now ≡ 128 }
     ensures { result ≡ bounded_of samples.now }
@@ -38,7 +40,8 @@ pub fn bounded(samples: &[u16]) -> bool
     within
 }
 
-// Pass p added to the eight sums over the passes before it.
+// Pass p added to the eight sums over the passes before it, which are carried by value, a form that the rules name. By places, since
+// the closure of an `array::from_fn` would have to require all this once more.
 fn add_pass(sums: [u16; 8], samples: &[u16], p: usize) -> [u16; 8]
     requires { (length samples.now ≡ 128) × (bounded_of samples.now ≡ true) × (p < 16) × (sums ≡ map (sum_of p samples.now) channels) }
     ensures { result ≡ map (sum_of (p + 1) samples.now) channels }
@@ -54,14 +57,11 @@ fn add_pass(sums: [u16; 8], samples: &[u16], p: usize) -> [u16; 8]
 fn divided(sums: [u16; 8]) -> [u16; 8]
     ensures { result ≡ map (λ (s : ℕ). s / 16) sums }
 {
-    let mut out = sums;
-    for c in 0..8usize {
-        out[c] = out[c] / 16;
-    }
-    out
+    sums.map(|s| s / 16)
 }
 
-// The eight averages over sixteen passes.
+// The eight averages over sixteen passes. By the number of the pass, which the clause of `add_pass` goes by (`sum_of p`).
+#[tactic(auto, using(crate::proofs::Sums::sums_none))]
 pub fn averages(samples: &[u16]) -> [u16; 8]
     requires { (length samples.now ≡ 128) × (bounded_of samples.now ≡ true) }
     ensures { result ≡ averages_of 16 samples.now }
@@ -74,7 +74,7 @@ pub fn averages(samples: &[u16]) -> [u16; 8]
     divided(sums)
 }
 
-// Bits 7..0 of an average.
+// Bits 7..0 of an average. This and `high` are two functions, since each line is `bits_of` as the table writes it.
 fn low(v: u16) -> u8
     ensures { result ≡ bits_of v 7 0 }
 {
@@ -88,14 +88,8 @@ fn high(v: u16) -> u8
     (v / 256 % 4) as u8
 }
 
-// A flag's bit.
-fn bit_of(f: bool) -> u8
-    ensures { (result ≡ cond f 1 0) × (result ≤ 1) }
-{
-    if f { 1 } else { 0 }
-}
-
 // The frame AN03 of eight averages, the pipe, initialised or not, and the self-check number.
+#[tactic(auto, using(crate::proofs::Bytes::bytes_03))]
 fn three(a: [u16; 8], pipe: Pipe, initialised: bool, selfcheck: u8) -> [u8; 8]
     requires { (pipe.input.timeouts ≤ 15) × (pipe.output.timeouts ≤ 15) × (selfcheck ≤ 31) }
     ensures { result ≡ frame (lines03 a pipe initialised selfcheck) }
@@ -104,15 +98,16 @@ fn three(a: [u16; 8], pipe: Pipe, initialised: bool, selfcheck: u8) -> [u8; 8]
         pipe.input.timeouts * 16 + pipe.output.timeouts,
         0,
         low(a[1]),
-        bit_of(pipe.input.gathering()) * 128 + high(a[1]),
+        u8::from(pipe.input.gathering()) * 128 + high(a[1]),
         low(a[2]),
-        bit_of(pipe.output.busy()) * 128 + bit_of(initialised) * 4 + high(a[2]),
+        u8::from(pipe.output.busy()) * 128 + u8::from(initialised) * 4 + high(a[2]),
         low(a[3]),
         selfcheck * 4 + high(a[3]),
     ]
 }
 
 // The frame AN47 of eight averages.
+#[tactic(auto, using(crate::proofs::Bytes::bytes_47))]
 fn fortyseven(a: [u16; 8]) -> [u8; 8]
     ensures { result ≡ frame (lines47 a) }
 {
@@ -129,6 +124,7 @@ fn fortyseven(a: [u16; 8]) -> [u8; 8]
 }
 
 // The two frames that show the samples, the pipe, initialised or not, and the self-check number.
+#[tactic(auto, unfolding(crate::specs::Layout::frames_of))]
 pub fn two_frames(samples: &[u16], pipe: Pipe, initialised: bool, selfcheck: u8) -> Frames
     requires { (length samples.now ≡ 128) × (bounded_of samples.now ≡ true) × (pipe.input.timeouts ≤ 15) × (pipe.output.timeouts ≤ 15) × (selfcheck ≤ 31) }
     ensures { result ≡ frames_of 16 samples.now pipe initialised selfcheck }

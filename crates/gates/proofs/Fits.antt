@@ -2,16 +2,15 @@
 -- Assumes nothing.
 use Prim.Native.Nat.{ℕ, ◌*◌, ◌≤◌, ◌<◌}
 use mathlib.Core.Path.{◌≡◌}
-use mathlib.Core.Bool.{true, ◌&&◌}
-use mathlib.Core.List.{List, [], ◌∷◌}
-use lib.Dec.{eqb, leb}
+use mathlib.Core.Bool.{true}
+use mathlib.Core.List.{List, ◌∷◌}
+use lib.Dec.{leb}
 use lib.ListN.{length}
 use borrow.Author.Tests.{leb-true, leb-false, eqb-true}
 use Rattle.rows.specs.Rows.{Row, Clear, none, past}
 use Rattle.rows.proofs.Bool.{and_left, and_right, not-false}
 use Rattle.blocks.specs.declared.Store.{Store}
 use Rattle.blocks.specs.Stores.{capacity_of, store_sized, sound_ring}
-use Rattle.tables.specs.Tables.{Three, tables_sized}
 use Rattle.tables.specs.Bounds.{sound_words}
 use Rattle.pipe.specs.Input.{sound_input}
 use Rattle.pipe.specs.Output.{sound_output}
@@ -19,8 +18,8 @@ use Rattle.pipe.specs.Pipe.{sound_pipe}
 use Rattle.pipe.proofs.Laws.{sound_in, sound_out}
 use Rattle.frames.specs.Samples.{bounded_of}
 use Rattle.rules.specs.declared.Pod.{Pod}
-use Rattle.rules.specs.State.{ring_of}
-use Rattle.rules.specs.Refusals.{tables_row, state_row}
+use Rattle.rules.specs.State.{ring_of, sound_pod}
+use Rattle.rules.specs.Refusals.{state_row}
 use Rattle.rules.specs.Families.{packet_out, pipe}
 use Rattle.rules.specs.Calls.{put_rows, lone_rows, samples_rows}
 use Rattle.rules.proofs.Inside.{pod_in, ring_in}
@@ -29,24 +28,9 @@ pub store_length : (s : Store) (l : List ℕ) → store_sized s l ≡ true → l
 unfolding store_sized
 store_length s l h = eqb-true _ _ h
 
--- the three tables of their exact sizes
-abbrev pub Sized : Three → Type 0
-Sized t = (length t.five ≡ 64) × (length t.six ≡ 128) × (length t.seven ≡ 64)
-
-pub table_lengths : (t : Three) → tables_sized t ≡ true → Sized t
-unfolding tables_sized
-table_lengths t h =
-    let a = eqb (length t.five) 64 in
-    let b = eqb (length t.six) 128 in
-    let c = eqb (length t.seven) 64 in
-    let rest = and_right a (b && c) h in
-    (eqb-true _ _ (and_left a (b && c) h), eqb-true _ _ (and_left b c rest), eqb-true _ _ (and_right b c rest))
-
-pub tables_fit : (t : Three) {rs : List Row} → Clear (tables_row t ∷ rs) → Sized t
-tables_fit t (past k ks) = table_lengths t (not-false k)
-
-pub words_fit : (t : Three) (p : Pod) → Clear (tables_row t ∷ state_row p ∷ []) → Sized t × (sound_words p.words ≡ true)
-words_fit t p (past k (past ok none)) = (table_lengths t (not-false k), (pod_in p (not-false ok)).words)
+-- the words of a sound pod are sound
+pub words_sound : (p : Pod) → sound_pod p ≡ true → sound_words p.words ≡ true
+words_sound p h = (pod_in p h).words
 
 pub pipe_fits : (p : Pod) {rs : List Row} → Clear (state_row p ∷ rs)
     → ((p.pipe.input.gathered ≤ 7) × (p.pipe.input.timeouts ≤ 15)) × ((p.pipe.output.hand ≤ 8) × (p.pipe.output.timeouts ≤ 15))
@@ -71,3 +55,6 @@ pub put_fits : (s : Store) (b store : List ℕ) (p : Pod) → Clear (put_rows s 
     → ((sound_ring (capacity_of s) (ring_of s p) ≡ true) × ((ring_of s p).waiting < capacity_of s)) × ((length store ≡ capacity_of s * 256) × (length b ≡ 256))
 put_fits s b store p (past size (past ok (past long (past on (past room none))))) =
     ((ring_in (pod_in p (not-false ok)) s, leb-false _ _ room), (store_length s store (not-false size), eqb-true _ _ (not-false long)))
+
+-- what a call's open gate leaves to its effect
+pub ruleset fitting = (put_fits, samples_fit, pipe_fits, out-fits)

@@ -1,10 +1,2 @@
-// What the rows of a call say to its code: none holds, or the first that holds.
+// What the rows of a call say to its code: a gate gives `Ok` where none holds, or the refusal of the first that holds.
 #![tactic(auto)]
-
-use rules::Refusal;
-
-#[derive(Clone, Copy)]
-pub enum Gate {
-    Open,
-    Shut(Refusal),
-}

@@ -4,6 +4,7 @@
 ghost use Rattle.std.specs.Prelude.{◌≡◌, ◌<◌};
 ghost use Rattle.hexes.specs.Digits.{digit_of, byte_digits, word_digits};
 
+// Capital digits, which the library gives of no value.
 fn digit(n: u8) -> u8
     requires { n < 16 }
     ensures { result ≡ digit_of n }
@@ -20,12 +21,8 @@ pub fn byte(b: u8) -> [u8; 2]
 pub fn word(w: u16) -> [u8; 4]
     ensures { result ≡ word_digits w }
 {
-    let high = (w / 256) as u8;
-    let low = (w % 256) as u8;
-    [
-        digit(high / 16),
-        digit(high % 16),
-        digit(low / 16),
-        digit(low % 16),
-    ]
+    let [high, low] = w.to_be_bytes();
+    let [a, b] = byte(high);
+    let [c, d] = byte(low);
+    [a, b, c, d]
 }

@@ -5,3 +5,4 @@ pub mod Numerals
 pub mod Pairs
 pub mod Laws
 pub mod Inked
+pub mod Behind

@@ -15,13 +15,3 @@ next t i k h e = drop-cons t i 0 h ∙ ap (λ (j : ℕ). get_or t i 0 ∷ drop j
 -- two runs of stores, the second behind the first, are one
 pub sets_join : (vs ws l : List ℕ) (i k : ℕ) → i + length vs ≡ k → sets (sets l i vs) k ws ≡ sets l i (vs ++ ws)
 sets_join vs ws l i k e = rw (← e) (sym (sets_append l i vs ws))
-
--- and so are three
-pub three_runs : (xs ys zs l k m n : List ℕ) (at first last : ℕ) → k ≡ sets l at xs → m ≡ sets k first ys → n ≡ sets m last zs
-    → at + length xs ≡ first → first + length ys ≡ last → n ≡ sets l at (xs ++ (ys ++ zs))
-three_runs xs ys zs l k m n at first last ek em en h1 h2 =
-    en
-    ∙ ap (λ (w : List ℕ). sets w last zs) em
-    ∙ sets_join ys zs k first last h2
-    ∙ ap (λ (w : List ℕ). sets w first (ys ++ zs)) ek
-    ∙ sets_join xs (ys ++ zs) l at first h1

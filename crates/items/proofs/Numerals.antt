@@ -3,10 +3,12 @@
 use Prim.Native.Nat.{ℕ, ◌+◌, ◌-◌, ◌*◌, ◌/◌, ◌%◌, ◌≤◌, ◌<◌}
 use native.Mathlib.Omega.{arith}
 use mathlib.Core.Path.{◌≡◌, ap, ◌∙◌}
-use mathlib.Core.Bool.{true, false, ◌&&◌, and-false}
+use mathlib.Core.Bool.{false, ◌&&◌, and-false}
 use mathlib.Core.List.{[], ◌∷◌}
 use lib.Dec.{ltb, leb}
 use borrow.Author.Tests.{le-leb, lt-leb, lt-ltb, le-ltb, leb-true, ltb-true, ltb-false}
+use Rattle.std.specs.Prelude.{Some}
+use Rattle.std.proofs.lemmas.Option.{cond_some}
 use Rattle.hexes.specs.Digits.{digit_of, byte_digits}
 use Rattle.items.specs.Text.{digit_value, pair_in}
 use Rattle.rows.proofs.Bool.{split, and_left, and_right}
@@ -48,31 +50,25 @@ digit_is c h =
     (λ d. absurd (omega (arith, value_none c e d))))
 
 -- two digits
-pub pair_back : (b : ℕ) → b < 256 → pair_in (digit_of (b / 16)) (digit_of (b % 16)) ≡ b
+pub pair_back : (b : ℕ) → b < 256 → pair_in (digit_of (b / 16)) (digit_of (b % 16)) ≡ Some b
 unfolding pair_in
 pair_back b h =
-    rw (digit-back (b / 16) (omega arith), digit-back (b % 16) (omega arith), lt-ltb (b / 16) 16 (omega arith), lt-ltb (b % 16) 16 (omega arith)) (omega arith)
-
-pair_value : (h l : ℕ) → (ltb (digit_value h) 16 && ltb (digit_value l) 16) ≡ true → pair_in h l ≡ digit_value h * 16 + digit_value l
-unfolding pair_in
-pair_value h l e = rw e
-
-pair_none : (h l : ℕ) → (ltb (digit_value h) 16 && ltb (digit_value l) 16) ≡ false → pair_in h l ≡ 256
-unfolding pair_in
-pair_none h l e = rw e
+    let whole : b / 16 * 16 + b % 16 ≡ b = omega arith in
+    rw (digit-back (b / 16) (omega arith), digit-back (b % 16) (omega arith), lt-ltb (b / 16) 16 (omega arith), lt-ltb (b % 16) 16 (omega arith), whole)
 
 -- where two characters are a pair, each is a digit, and they are the pair's digits
-pub pair_is : (h l : ℕ) → pair_in h l < 256 → byte_digits (pair_in h l) ≡ h ∷ l ∷ []
-pair_is h l k =
-    split (ltb (digit_value h) 16 && ltb (digit_value l) 16)
-    (λ e.
-    let a : digit_value h < 16 = ltb-true (digit_value h) 16 (and_left (ltb (digit_value h) 16) (ltb (digit_value l) 16) e) in
-    let b : digit_value l < 16 = ltb-true (digit_value l) 16 (and_right (ltb (digit_value h) 16) (ltb (digit_value l) 16) e) in
-    let v : pair_in h l ≡ digit_value h * 16 + digit_value l = pair_value h l e in
-    let q : pair_in h l / 16 ≡ digit_value h = omega arith in
-    let r : pair_in h l % 16 ≡ digit_value l = omega arith in
-    ap (λ (x : ℕ). digit_of x ∷ digit_of (pair_in h l % 16) ∷ []) q
-    ∙ ap (λ (x : ℕ). digit_of (digit_value h) ∷ digit_of x ∷ []) r
-    ∙ ap (λ (x : ℕ). x ∷ digit_of (digit_value l) ∷ []) (digit_is h a)
-    ∙ ap (λ (x : ℕ). h ∷ x ∷ []) (digit_is l b))
-    (λ e. absurd (omega (arith, pair_none h l e)))
+pub pair_is : (h l b : ℕ) → pair_in h l ≡ Some b → (b < 256) × (byte_digits b ≡ h ∷ l ∷ [])
+unfolding pair_in
+pair_is h l b p =
+    let both = cond_some (ltb (digit_value h) 16 && ltb (digit_value l) 16) (digit_value h * 16 + digit_value l) b p in
+    let d : digit_value h < 16 = ltb-true (digit_value h) 16 (and_left (ltb (digit_value h) 16) (ltb (digit_value l) 16) both.0) in
+    let e : digit_value l < 16 = ltb-true (digit_value l) 16 (and_right (ltb (digit_value h) 16) (ltb (digit_value l) 16) both.0) in
+    let v : digit_value h * 16 + digit_value l ≡ b = both.1 in
+    let q : b / 16 ≡ digit_value h = omega arith in
+    let r : b % 16 ≡ digit_value l = omega arith in (
+      omega arith,
+      ap (λ (x : ℕ). digit_of x ∷ digit_of (b % 16) ∷ []) q
+          ∙ ap (λ (x : ℕ). digit_of (digit_value h) ∷ digit_of x ∷ []) r
+          ∙ ap (λ (x : ℕ). x ∷ digit_of (digit_value l) ∷ []) (digit_is h d)
+          ∙ ap (λ (x : ℕ). h ∷ x ∷ []) (digit_is l e),
+    )

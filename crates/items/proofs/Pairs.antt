@@ -1,6 +1,7 @@
 -- Two digits at once, one in each byte of a number of 16 bits.
 -- Assumes nothing.
-use mathlib.Core.Path.{◌≡◌, refl, ap₂, ◌∙◌}
+use mathlib.Core.Path.{◌≡◌, refl, ap, ap₂, ◌∙◌}
+use Rattle.std.specs.Prelude.{Some, None}
 use mathlib.Core.Bool.{Bool, true, false, and-false, cond}
 use Prim.Native.Nat.{ℕ, ◌+◌, ◌-◌, ◌*◌, ◌/◌, ◌%◌, ◌^◌, ◌<◌, ◌≤◌}
 use native.Mathlib.Omega.{arith}
@@ -68,7 +69,7 @@ module _ (h l : ℕ) (hb : h < 256) (lb : l < 256) where
       rw (cut, both_low 1 ((digit l + 6) / 16) ((digit l + 6) % 16 * 16 + (digit h + 6) / 16) (omega arith) (omega arith)) (omega arith)
 
   -- both are written as they came: two digits
-  pub paired : again l * 256 + again h ≡ l * 256 + h → ((digit l * 256 + digit h) * 16 + (digit l * 256 + digit h) / 256) % 256 ≡ pair_in h l
+  pub paired : again l * 256 + again h ≡ l * 256 + h → Some (((digit l * 256 + digit h) * 16 + (digit l * 256 + digit h) / 256) % 256) ≡ pair_in h l
   unfolding pair_in
   paired e =
       let same = apart (again l) (again h) l h (again_byte h) hb e in
@@ -77,10 +78,10 @@ module _ (h l : ℕ) (hb : h < 256) (lb : l < 256) where
         right l lb (eq-eqb (again l) l same.0),
         lt-ltb (digit h) 16 (digit-small h),
         lt-ltb (digit l) 16 (digit-small l),
-      ) (turned (digit l) (digit h) (digit-small l) (digit-small h))
+      ) (ap (λ (b : ℕ). Some b) (turned (digit l) (digit h) (digit-small l) (digit-small h)))
 
   -- one of them is not
-  pub unpaired : (again l * 256 + again h ≡ l * 256 + h → ⊥) → pair_in h l ≡ 256
+  pub unpaired : (again l * 256 + again h ≡ l * 256 + h → ⊥) → None ≡ pair_in h l
   unfolding pair_in
   unpaired n =
       split (eqb (again h) h)

@@ -5,7 +5,7 @@ use native.Mathlib.Omega.{arith}
 use borrow.Author.Tests.{lt-ltb, le-ltb}
 use mathlib.Core.Path.{◌≡◌, refl}
 use mathlib.Core.List.{List, [], ◌∷◌, ◌++◌}
-use lib.ListN.{length, drop, get_or, drop_of_length-le, length-append}
+use lib.ListN.{length, drop, get_or, drop_of_length-le}
 use Rattle.hexes.specs.Digits.{byte_digits}
 use Rattle.items.specs.Text.{spell}
 use Rattle.items.specs.Printed.{answer_line, bytes_line, digits_of, decimal, refused_line}
@@ -38,9 +38,6 @@ pub some_line : (c : ℕ) (bs : List ℕ) → (length bs ≡ 0 → ⊥) → byte
 unfolding bytes_line answer_line
 some_line c [] h = absurd (h refl)
 some_line c (b ∷ bs) h = refl
-
-pub some_length : (c : ℕ) (bs : List ℕ) → (length bs ≡ 0 → ⊥) → length (bytes_line c bs) ≡ 3 * length bs + 2
-some_length c bs h = rw (some_line c bs h) (omega (arith, length-append (spell bs) (10 ∷ []), spell-length bs))
 
 -- a refusal's number has one digit ..
 pub one_digit : (c n : ℕ) → n < 10 → refused_line c n ≡ c ∷ 32 ∷ 33 ∷ (48 + n) ∷ 10 ∷ []

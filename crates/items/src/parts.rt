@@ -1,8 +1,9 @@
-// Runs of characters and words: copied to a place, and their first ones.
+// Characters and words: copied to a place, and their first ones.
 ghost use Rattle.std.specs.Prelude.{◌≡◌, ◌+◌, ◌≤◌, length, take};
 ghost use Rattle.std.proofs.lemmas.List.Edits.{sets};
 
-// Copies a text to a place, and answers the place behind it.
+// Copies a text to a place of any lent run, and answers the place behind it. `Output::append` does it where the place is kept beside; who has a
+// run of no fixed length prints into an output of their own, and copies what it has gathered (`gathered`, proofs/Behind.antt).
 pub fn append(out: &mut [u8], at: usize, text: &[u8]) -> usize
     requires { at + length text.now ≤ length out.old }
     ensures value { result ≡ at + length text.now }
@@ -12,17 +13,10 @@ pub fn append(out: &mut [u8], at: usize, text: &[u8]) -> usize
     at + text.len()
 }
 
-// The first characters of a text, so many, or all where it has fewer.
-pub fn front(text: &[u8], n: usize) -> &[u8]
-    ensures result_value { result.now ≡ take n text.now }
-    ensures result_in_bounds { length result.now ≤ length text.now }
+// The first characters or words, so many, or all where there are fewer.
+pub fn front<T>(items: &[T], n: usize) -> &[T]
+    ensures result_value { result.now ≡ take n items.now }
+    ensures result_in_bounds { length result.now ≤ length items.now }
 {
-    if n < text.len() { &text[..n] } else { text }
-}
-
-// The first words likewise.
-pub fn front_words(words: &[u16], n: usize) -> &[u16]
-    ensures { result.now ≡ take n words.now }
-{
-    if n < words.len() { &words[..n] } else { words }
+    if n < items.len() { &items[..n] } else { items }
 }

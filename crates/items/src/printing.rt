@@ -1,88 +1,68 @@
-// The lines that the programs print, written into the output from a place on.
-ghost use Rattle.std.specs.Prelude.{◌≡◌, ◌+◌, ◌*◌, ◌≤◌, ◌<◌, length};
-ghost use Rattle.std.proofs.lemmas.List.Edits.{sets};
+// The lines that the programs print, written behind what is gathered.
+ghost use Rattle.std.specs.Prelude.{◌+◌, ◌*◌, ◌≤◌, ◌<◌, length};
 ghost use Rattle.items.specs.Text.{spell};
 ghost use Rattle.items.specs.Printed.{bytes_line, word_line, bare_line, refused_line};
+ghost use Rattle.items.specs.Output.{Written};
 
-use crate::parts::append;
+use crate::Output;
 
-// Each byte after one space.
-pub fn put_items(out: &mut [u8], at: usize, bytes: &[u8]) -> usize
-    requires { at + 3 * length bytes.now ≤ length out.old }
-    ensures value { result ≡ at + 3 * length bytes.now }
-    ensures out_after { out.new ≡ sets out.old at (spell bytes.now) }
-{
-    let mut to = at;
-    let mut i = 0;
-    while i < bytes.len() {
-        let digits = hexes::byte(bytes[i]);
-        let item = [b' ', digits[0], digits[1]];
-        to = append(out, to, &item);
-        i += 1;
+impl<const N: usize> Output<N> {
+    // Each byte after one space.
+    pub fn items(&mut self, bytes: &[u8])
+        requires { self.old.at + 3 * length bytes.now ≤ N }
+        ensures { Written (spell bytes.now) (3 * length bytes.now) self.old self.new }
+    {
+        for b in bytes {
+            let [high, low] = hexes::byte(*b);
+            self.append(&[b' ', high, low]);
+        }
     }
-    to
-}
 
-// A letter and bytes; ` -` for none.
-pub fn bytes_line(out: &mut [u8], at: usize, letter: u8, bytes: &[u8]) -> usize
-    requires { at + 3 * length bytes.now + 4 ≤ length out.old }
-    ensures value { result ≡ at + length (bytes_line letter bytes.now) }
-    ensures out_after { out.new ≡ sets out.old at (bytes_line letter bytes.now) }
-    ensures upper_bound { result ≤ at + 3 * length bytes.now + 4 }
-{
-    if bytes.len() == 0 {
-        return append(out, at, &[letter, b' ', b'-', b'\n']);
+    // A letter and bytes; ` -` for none.
+    pub fn bytes_line(&mut self, letter: u8, bytes: &[u8])
+        requires { self.old.at + 3 * length bytes.now + 4 ≤ N }
+        ensures { Written (bytes_line letter bytes.now) (3 * length bytes.now + 4) self.old self.new }
+    {
+        if bytes.is_empty() {
+            return self.append(&[letter, b' ', b'-', b'\n']);
+        }
+        self.append(&[letter]);
+        self.items(bytes);
+        self.append(b"\n");
     }
-    let first = append(out, at, &[letter]);
-    let last = put_items(out, first, bytes);
-    append(out, last, &[b'\n'])
-}
 
-// A letter and a word.
-pub fn word_line(out: &mut [u8], at: usize, letter: u8, word: u16) -> usize
-    requires { at + 7 ≤ length out.old }
-    ensures value { result ≡ at + 7 }
-    ensures out_after { out.new ≡ sets out.old at (word_line letter word) }
-{
-    let digits = hexes::word(word);
-    append(
-        out,
-        at,
-        &[
-            letter, b' ', digits[0], digits[1], digits[2], digits[3], b'\n',
-        ],
-    )
-}
-
-// A letter alone.
-pub fn bare_line(out: &mut [u8], at: usize, letter: u8) -> usize
-    requires { at + 2 ≤ length out.old }
-    ensures value { result ≡ at + 2 }
-    ensures out_after { out.new ≡ sets out.old at (bare_line letter) }
-{
-    append(out, at, &[letter, b'\n'])
-}
-
-// A letter and the number of a refusal.
-pub fn refused_line(out: &mut [u8], at: usize, letter: u8, number: u8) -> usize
-    requires { (at + 6 ≤ length out.old) × (number < 100) }
-    ensures value { result ≡ at + length (refused_line letter number) }
-    ensures out_after { out.new ≡ sets out.old at (refused_line letter number) }
-    ensures upper_bound { result ≤ at + 6 }
-{
-    if number < 10 {
-        return append(out, at, &[letter, b' ', b'!', b'0' + number, b'\n']);
+    // A letter and a word.
+    pub fn word_line(&mut self, letter: u8, word: u16)
+        requires { self.old.at + 7 ≤ N }
+        ensures { Written (word_line letter word) 7 self.old self.new }
+    {
+        let [a, b, c, d] = hexes::word(word);
+        self.append(&[letter, b' ', a, b, c, d, b'\n']);
     }
-    append(
-        out,
-        at,
-        &[
+
+    // A letter alone.
+    pub fn bare_line(&mut self, letter: u8)
+        requires { self.old.at + 2 ≤ N }
+        ensures { Written (bare_line letter) 2 self.old self.new }
+    {
+        self.append(&[letter, b'\n']);
+    }
+
+    // A letter and the number of a refusal. The digits by hand: `Display` promises no text, and `decimals` stands over this crate.
+    pub fn refused_line(&mut self, letter: u8, number: u8)
+        requires { (self.old.at + 6 ≤ N) × (number < 100) }
+        ensures { Written (refused_line letter number) 6 self.old self.new }
+    {
+        if number < 10 {
+            return self.append(&[letter, b' ', b'!', b'0' + number, b'\n']);
+        }
+        self.append(&[
             letter,
             b' ',
             b'!',
             b'0' + number / 10,
             b'0' + number % 10,
             b'\n',
-        ],
-    )
+        ]);
+    }
 }

@@ -5,6 +5,7 @@ use native.Mathlib.Omega.{arith}
 use mathlib.Core.Path.{◌≡◌, sym, ap, ◌∙◌}
 use mathlib.Core.List.{List, [], ◌∷◌, ◌++◌, append_assoc}
 use lib.ListN.{length}
+use Rattle.std.specs.Prelude.{Option, Some, None}
 use Rattle.rows.proofs.Bool.{by-test}
 use Rattle.hexes.specs.Digits.{word_digits}
 use Rattle.crc.specs.Crc.{crc_of}
@@ -16,7 +17,7 @@ use Rattle.rules.specs.declared.Pod.{Pod}
 use Rattle.rules.specs.State.{Lent}
 use Rattle.line_calls.specs.declared.Sizes.{Sizes}
 use Rattle.lab_sets.specs.declared.Change.{Change}
-use Rattle.lab_sets.specs.declared.Change.TheVariants.{Nothing, Cell, Value, Exchange, Address, Transfer, Thing}
+use Rattle.lab_sets.specs.declared.Change.TheVariants.{Cell, Value, Exchange, Address, Transfer, Thing}
 use Rattle.lab_lines.specs.Asked.{change_in}
 use Rattle.decimals.specs.Printing.{spelled, naturals}
 use Rattle.decimals.proofs.Spell.{spelled_inked}
@@ -45,15 +46,15 @@ shown_one p l =
     let inked = inked_both n (w ++ (o ++ k)) (spelled_inked (front_numbers p ++ back_numbers p)) (inked_both w (o ++ k) (words_inked (shown_checks p l)) behind) in
     ap (λ (t : List ℕ). suc (before t)) e ∙ ended (86 ∷ (n ++ (w ++ (o ++ k)))) (omega arith, inked) ∙ sym (ap length e)
 
-letter_inked : (c : Change) → 10 < letter_of c
+letter_inked : (c : Option Change) → 10 < letter_of c
 unfolding letter_of
-letter_inked Nothing = omega arith
-letter_inked (Cell c n) = omega arith
-letter_inked (Value id v) = omega arith
-letter_inked (Exchange x) = omega arith
-letter_inked (Address g) = omega arith
-letter_inked (Transfer t) = omega arith
-letter_inked (Thing t n) = omega arith
+letter_inked None = omega arith
+letter_inked (Some (Cell c n)) = omega arith
+letter_inked (Some (Value id v)) = omega arith
+letter_inked (Some (Exchange x)) = omega arith
+letter_inked (Some (Address g)) = omega arith
+letter_inked (Some (Transfer t)) = omega arith
+letter_inked (Some (Thing t n)) = omega arith
 
 pub own_one : (t : List ℕ) (p : Pod) (s : Sizes) (l : Lent) → suc (before (own_of t p s l).text) ≡ length (own_of t p s l).text
 unfolding own_of

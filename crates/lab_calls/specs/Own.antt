@@ -1,6 +1,6 @@
 -- The lines that lab has besides the console's: "X, L, V and `?` lines are no calls".
 -- Assumes nothing.
-use Rattle.std.specs.Prelude.{ℕ, ◌≡◌, Bool, ◌&&◌, ◌||◌, cond, List, eqb, length, get_or}
+use Rattle.std.specs.Prelude.{ℕ, ◌≡◌, Bool, ◌&&◌, ◌||◌, cond, List, eqb, length, get_or, Option, Some, None}
 use Rattle.blocks.specs.declared.Store.TheVariants.{Priority, Ordinary}
 use Rattle.orders.specs.declared.Table.TheVariants.{Five, Six, Seven}
 use Rattle.items.specs.Characters.{question}
@@ -8,16 +8,17 @@ use Rattle.items.specs.Printed.{bare_line}
 use Rattle.rules.specs.declared.Pod.{Pod}
 use Rattle.rules.specs.State.{Lent}
 use Rattle.line_calls.specs.declared.Sizes.{Sizes}
-use Rattle.line_calls.specs.Memory.{Memory, memory, lent_in, lent_at, right_sizes}
+use Rattle.line_calls.specs.declared.Memory.{Memory}
+use Rattle.line_calls.specs.Memory.{memory, lent_in, lent_at, right_sizes}
 use Rattle.lab_sets.specs.declared.Thing.{Thing}
 use Rattle.lab_sets.specs.declared.Thing.TheVariants.{Room, Store as store, Table as table}
 use Rattle.lab_sets.specs.declared.Change.{Change}
-use Rattle.lab_sets.specs.declared.Change.TheVariants.{Nothing, Cell, Value, Exchange, Address, Transfer, Thing as thing}
+use Rattle.lab_sets.specs.declared.Change.TheVariants.{Cell, Value, Exchange, Address, Transfer, Thing as thing}
 use Rattle.lab_sets.specs.Setting.{part_set, load_set}
 use Rattle.lab_lines.specs.Asked.{change_in}
-use Rattle.decimals.specs.Printing.{Written}
+use Rattle.items.specs.declared.output.Output.{Output}
+use Rattle.items.specs.Output.{Written}
 use Rattle.lab_shows.specs.Shown.{letter_v, shown_text}
-use Rattle.lab_calls.specs.declared.Noted.{Noted}
 
 -- `X`
 abbrev pub letter_x : ℕ
@@ -44,24 +45,33 @@ size_set (table Five) n s = record { room = s.room; priority = s.priority; ordin
 size_set (table Six) n s = record { room = s.room; priority = s.priority; ordinary = s.ordinary; five = s.five; six = n; seven = s.seven }
 size_set (table Seven) n s = record { room = s.room; priority = s.priority; ordinary = s.ordinary; five = s.five; six = s.six; seven = n }
 
-unfoldable pub sizes_set : Change → Sizes → Sizes
-sizes_set Nothing s = s
-sizes_set (Cell c n) s = s
-sizes_set (Value id v) s = s
-sizes_set (Exchange x) s = s
-sizes_set (Address g) s = s
-sizes_set (Transfer t) s = s
-sizes_set (thing t n) s = size_set t n s
+unfoldable pub sizes_set : Option Change → Sizes → Sizes
+sizes_set None s = s
+sizes_set (Some (Cell c n)) s = s
+sizes_set (Some (Value id v)) s = s
+sizes_set (Some (Exchange x)) s = s
+sizes_set (Some (Address g)) s = s
+sizes_set (Some (Transfer t)) s = s
+sizes_set (Some (thing t n)) s = size_set t n s
+
+-- the pod and the words of a load after a line, as they were where it asks for nothing
+abbrev pub part_after : Option Change → Pod → Pod
+part_after None p = p
+part_after (Some c) p = part_set c p
+
+abbrev pub load_after : Option Change → List ℕ → List ℕ
+load_after None l = l
+load_after (Some c) l = load_set c l
 
 -- "prints `?` and sets nothing", `X` or `L`
-unfoldable pub letter_of : Change → ℕ
-letter_of Nothing = question
-letter_of (Cell c n) = letter_x
-letter_of (Value id v) = letter_x
-letter_of (Exchange x) = letter_x
-letter_of (Address g) = letter_x
-letter_of (Transfer t) = letter_x
-letter_of (thing t n) = letter_l
+unfoldable pub letter_of : Option Change → ℕ
+letter_of None = question
+letter_of (Some (Cell c n)) = letter_x
+letter_of (Some (Value id v)) = letter_x
+letter_of (Some (Exchange x)) = letter_x
+letter_of (Some (Address g)) = letter_x
+letter_of (Some (Transfer t)) = letter_x
+letter_of (Some (thing t n)) = letter_l
 
 -- what a line of its own leaves: the pod, the sizes, the words of a load, and the text that it prints
 pub record Leaves : Type 0 where
@@ -73,8 +83,8 @@ pub record Leaves : Type 0 where
 abbrev pub leaves : Pod → Sizes → List ℕ → List ℕ → Leaves
 leaves p s l t = record { pod = p; sizes = s; load = l; text = t }
 
-abbrev pub asks : Change → Pod → Sizes → Lent → Leaves
-asks c p s l = leaves (part_set c p) (sizes_set c s) (load_set c l.load) (bare_line (letter_of c))
+abbrev pub asks : Option Change → Pod → Sizes → Lent → Leaves
+asks c p s l = leaves (part_after c p) (sizes_set c s) (load_after c l.load) (bare_line (letter_of c))
 
 abbrev pub shows : Pod → Sizes → Lent → Leaves
 shows p s l = leaves p s l.load (shown_text p l)
@@ -90,9 +100,10 @@ shown_in m = lent_in (lent_at right_sizes m)
 abbrev pub with_load : List ℕ → Memory → Memory
 with_load l m = memory m.room m.priority m.ordinary m.five m.six m.seven l
 
--- and so a line of its own is answered; no line is longer than 1,200 characters
-pub record OwnAnswered (t : List ℕ) (p : Pod) (s : Sizes) (l : Lent) (r : Noted) (load' : List ℕ) (at : ℕ) (o o' : List ℕ) : Type 0 where
-  pub pod : r.pod ≡ (own_of t p s l).pod
-  pub sizes : r.sizes ≡ (own_of t p s l).sizes
-  pub load : load' ≡ (own_of t p s l).load
-  pub printed : Written (own_of t p s l).text 1200 at r.at o o'
+-- and so a line of its own is answered, of the memory only the words of a load may change; no line is longer than 1,200 characters
+pub record OwnAnswered {N : ℕ} (t : List ℕ) (p p' : Pod) (s s' : Sizes) (m m' : Memory) (o o' : Output N) : Type 0 where
+  pub pod : p' ≡ (own_of t p s (shown_in m)).pod
+  pub sizes : s' ≡ (own_of t p s (shown_in m)).sizes
+  pub load : m'.load ≡ (own_of t p s (shown_in m)).load
+  pub rest : m' ≡ with_load m'.load m
+  pub printed : Written (own_of t p s (shown_in m)).text 1200 o o'

@@ -1,16 +1,16 @@
 -- What a line asks for, case by case: a cell and a thing come with their ranges.
 -- Assumes nothing.
-use Prim.Native.Nat.{ℕ, ◌+◌, ◌^◌, ◌≤◌}
+use Prim.Native.Nat.{ℕ, ◌+◌, ◌^◌}
 use mathlib.Core.Path.{◌≡◌, refl}
 use mathlib.Core.Bool.{true, not, ◌&&◌}
 use mathlib.Core.List.{List}
 use lib.Dec.{ltb, leb, eqb}
 use lib.IntN.{ℤ, pos, neg_ℤ}
 use lib.ListN.{take, drop}
+use Rattle.std.specs.Prelude.{Option, Some, None, option_map, option_and_then, IfSome}
 use Rattle.rows.proofs.Bool.{by-test, and_right}
 use Rattle.orders.specs.declared.Table.{Table}
 use Rattle.orders.specs.declared.Table.TheVariants.{Five, Six, Seven}
-use Rattle.tables.specs.declared.Given.{Given}
 use Rattle.tables.specs.declared.Transfer.{Transfer}
 use Rattle.rules.specs.declared.Exchange.{Exchange}
 use Rattle.lab_sets.specs.declared.Cell.{Cell}
@@ -24,17 +24,17 @@ use Rattle.lab_names.specs.declared.Part.{Part}
 use Rattle.lab_names.specs.declared.Part.TheVariants as part
 use Rattle.lab_names.specs.Names.{part_named}
 use Rattle.decimals.specs.Reading.{is_below, numbers_in, numbers_read}
-use Rattle.lab_lines.specs.Ranges.{up_to, minus_one, right_size}
-use Rattle.lab_lines.specs.Asked.{cell_asked, value_asked, exchange_of, exchange_asked, address_asked, moving, transfer_of, number_at, all_bytes, five_asked, only, transfer_asked, thing_asked, asked_of, name_end, change_in}
+use Rattle.lab_lines.specs.Ranges.{up_to, within, minus_one, right_size}
+use Rattle.lab_lines.specs.Asked.{cell_asked, value_asked, exchange_of, exchange_asked, address_asked, moving, transfer_of, byte_at, five_asked, only, transfer_asked, thing_asked, asked_of, name_end, change_in}
 
-module _ (P : Change → Type 0) (none : P change.Nothing) (cells : (c : Cell) (n : ℕ) → leb n (cell_most c) ≡ true → P (change.Cell c n))
-    (values : (id : ℕ) (v : ℤ) → P (change.Value id v)) (exchanges : (x : Exchange) → P (change.Exchange x))
-    (addresses : (g : Given) → P (change.Address g)) (transfers : (t : Transfer) → P (change.Transfer t))
-    (things : (t : Thing) (n : ℕ) → leb n (right_size t + 1024) ≡ true → P (change.Thing t n)) where
-  cell_case : (c : Cell) (n : Number) → P (cell_asked c n)
-  unfolding cell_asked
-  cell_case c n =
-      by-test P (up_to (cell_most c) n) (λ e. cells c n.size (and_right (not (is_below n)) (leb n.size (cell_most c)) e)) (λ e. none)
+module _ (P : Option Change → Type 0) (none : P None) (cells : (c : Cell) (n : ℕ) → leb n (cell_most c) ≡ true → P (Some (change.Cell c n)))
+    (values : (id : ℕ) (v : ℤ) → P (Some (change.Value id v))) (exchanges : (x : Exchange) → P (Some (change.Exchange x)))
+    (addresses : (g : Option ℕ) → P (Some (change.Address g))) (transfers : (t : Transfer) → P (Some (change.Transfer t)))
+    (things : (t : Thing) (n : ℕ) → leb n (right_size t + 1024) ≡ true → P (Some (change.Thing t n))) where
+  -- a number that is in its range
+  size_case : (most : ℕ) (n : Number) (f : ℕ → Change) → ((k : ℕ) → leb k most ≡ true → P (Some (f k))) → P (option_map f (within most n))
+  size_case most n f some =
+      by-test (λ (o : Option ℕ). P (option_map f o)) (up_to most n) (λ e. some n.size (and_right (not (is_below n)) (leb n.size most) e)) (λ e. none)
 
   value_case : (id : ℕ) (n : Number) → P (value_asked id n)
   unfolding value_asked
@@ -56,7 +56,7 @@ module _ (P : Change → Type 0) (none : P change.Nothing) (cells : (c : Cell) (
   address_case : (n : Number) → P (address_asked n)
   unfolding address_asked
   address_case n =
-      by-test P (minus_one n) (λ e. addresses _) (λ e. by-test P (up_to (most 16) n) (λ f. addresses _) (λ f. none))
+      by-test P (minus_one n) (λ e. addresses _) (λ e. size_case (most 16) n (λ a. change.Address (Some a)) (λ k f. addresses _))
 
   moving_case : (t : Table) (r n k s : ℕ) → P (moving t r n k s)
   unfolding moving
@@ -71,39 +71,36 @@ module _ (P : Change → Type 0) (none : P change.Nothing) (cells : (c : Cell) (
       by-test P (eqb c 5) (λ f. moving_case Five r n k s)
       (λ f. by-test P (eqb c 6) (λ g. moving_case Six r n k s) (λ g. by-test P (eqb c 7) (λ h. moving_case Seven r n k s) (λ h. none))))
 
-  list_case : (l : List Number) → P (five_asked l)
+  -- what stands where a value does, and nothing where none does
+  then : {A : Type 0} (f : A → Option Change) (o : Option A) → ((a : A) → P (f a)) → P (option_and_then f o)
+  then f None some = none
+  then f (Some a) some = some a
+
+  list_case : (l : List (Option Number)) → P (five_asked l)
   unfolding five_asked
   list_case l =
-      by-test P (all_bytes l)
-      (λ e. five_case (number_at l 0).size (number_at l 1).size (number_at l 2).size (number_at l 3).size (number_at l 4).size)
-      (λ e. none)
+      then _ (byte_at l 0) (λ c. then _ (byte_at l 1) (λ r. then _ (byte_at l 2) (λ n. then _ (byte_at l 3) (λ k. then _ (byte_at l 4) (λ s. five_case c r n k s)))))
 
   transfer_case : (ns : Numbers) → P (transfer_asked ns)
   unfolding transfer_asked
   transfer_case ns =
-      by-test P (eqb ns.count 5) (λ e. list_case ns.list) (λ e. by-test P (minus_one (only ns)) (λ f. transfers _) (λ f. none))
-
-  thing_case : (t : Thing) (n : Number) → P (thing_asked t n)
-  unfolding thing_asked
-  thing_case t n =
-      by-test P (up_to (right_size t + 1024) n) (λ e. things t n.size (and_right (not (is_below n)) (leb n.size (right_size t + 1024)) e)) (λ e. none)
+      by-test P (eqb ns.count 5) (λ e. list_case ns.list) (λ e. then _ (only ns) (λ n. by-test P (minus_one n) (λ f. transfers _) (λ f. none)))
 
   part_case : (p : Part) (ns : Numbers) → P (asked_of p ns)
-  unfolding asked_of
-  part_case part.Unknown ns = none
-  part_case (part.Cell c) ns = cell_case c (only ns)
-  part_case (part.Value id) ns = value_case id (only ns)
-  part_case part.Exchange ns = exchange_case (only ns)
-  part_case part.Address ns = address_case (only ns)
+  unfolding asked_of cell_asked thing_asked
+  part_case (part.Cell c) ns = then _ (only ns) (λ n. size_case (cell_most c) n (change.Cell c) (cells c))
+  part_case (part.Value id) ns = then _ (only ns) (value_case id)
+  part_case part.Exchange ns = then _ (only ns) exchange_case
+  part_case part.Address ns = then _ (only ns) address_case
   part_case part.Transfer ns = transfer_case ns
-  part_case (part.Thing t) ns = thing_case t (only ns)
+  part_case (part.Thing t) ns = then _ (only ns) (λ n. size_case (right_size t + 1024) n (change.Thing t) (things t))
 
   pub asked_case : (t : List ℕ) → P (change_in t)
   unfolding change_in
-  asked_case t = part_case (part_named (take (name_end t) t)) (numbers_read (numbers_in (drop (name_end t) t)))
+  asked_case t = then _ (part_named (take (name_end t) t)) (λ p. part_case p (numbers_read (numbers_in (drop (name_end t) t))))
 
 -- what a line asks for is in its range
-pub inside : (t : List ℕ) → in_range (change_in t) ≡ true
+pub inside : (t : List ℕ) → IfSome (change_in t) (λ c. in_range c ≡ true)
 unfolding in_range
 inside t =
-    asked_case (λ c. in_range c ≡ true) refl (λ c n e. e) (λ id v. refl) (λ x. refl) (λ g. refl) (λ t. refl) (λ t n e. refl) t
+    asked_case (λ o. IfSome o (λ c. in_range c ≡ true)) tt (λ c n e. e) (λ id v. refl) (λ x. refl) (λ g. refl) (λ t. refl) (λ t n e. refl) t

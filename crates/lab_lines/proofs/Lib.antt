@@ -1,2 +1,1 @@
-pub mod Fives
 pub mod Inside

@@ -1,6 +1,6 @@
 -- Whether a number is in a range, and how large a thing may be lent.
 -- Assumes nothing.
-use Rattle.std.specs.Prelude.{ℕ, ◌*◌, Bool, not, ◌&&◌, leb, eqb}
+use Rattle.std.specs.Prelude.{ℕ, ◌*◌, Bool, not, ◌&&◌, leb, eqb, cond, Option, Some, None}
 use Rattle.blocks.specs.declared.Store.{Store}
 use Rattle.blocks.specs.declared.Store.TheVariants.{Priority, Ordinary}
 use Rattle.blocks.specs.Stores.{capacity_of}
@@ -13,6 +13,10 @@ use Rattle.decimals.specs.Reading.{is_below}
 -- 0 to a most
 abbrev pub up_to : ℕ → Number → Bool
 up_to most n = not (is_below n) && leb n.size most
+
+-- .. and how much it is
+abbrev pub within : ℕ → Number → Option ℕ
+within most n = cond (up_to most n) (Some n.size) None
 
 abbrev pub minus_one : Number → Bool
 minus_one n = n.minus && eqb n.size 1

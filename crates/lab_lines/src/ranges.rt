@@ -1,19 +1,20 @@
 // How large each part and each lent thing may be asked for.
-ghost use Rattle.std.specs.Prelude.{◌≡◌, ◌≤◌};
+ghost use Rattle.std.specs.Prelude.{◌≡◌, ◌≤◌, IfSome};
 ghost use Rattle.tables.specs.Tables.{table_size};
 ghost use Rattle.lab_sets.specs.Ranges.{store_most, field_most, cell_most};
-ghost use Rattle.lab_lines.specs.Ranges.{up_to, minus_one, store_size, right_size};
+ghost use Rattle.lab_lines.specs.Ranges.{within, minus_one, store_size, right_size};
 
 use blocks::{BLOCK, Store, capacity};
 use decimals::{Number, below};
 use lab_sets::{Cell, Field, Thing};
 use tables::{Table, size};
 
-// Whether a number is 0 to `most`.
-pub fn up_to(n: Number, most: u64) -> bool
-    ensures { result ≡ up_to most n }
+// How much a number is, where it is 0 to `most`.
+pub fn up_to(n: Number, most: u64) -> Option<u64>
+    ensures value { result ≡ within most n }
+    ensures small { IfSome result (λ size. size ≤ most) }
 {
-    !below(n) & (n.size <= most)
+    (!below(n) & (n.size <= most)).then_some(n.size)
 }
 
 pub fn minus_one(n: Number) -> bool
@@ -23,6 +24,7 @@ pub fn minus_one(n: Number) -> bool
 }
 
 // Limit and remaining: 16 bits of the priority store, 32 of the ordinary one.
+// These are sizes, here and below: each is that of the definition of its name, a line for a case.
 fn store_most(store: Store) -> u64
     ensures { result ≡ store_most store }
 {
@@ -37,12 +39,9 @@ fn field_most(field: Field) -> u64
 {
     match field {
         Field::Mode => 0xFF,
-        Field::Flags => 0xFFFF,
+        Field::Flags | Field::Milliseconds | Field::Poll => 0xFFFF,
         Field::Seconds => 0xFFFF_FFFF,
-        Field::Milliseconds => 0xFFFF,
-        Field::Limit(store) => store_most(store),
-        Field::Remaining(store) => store_most(store),
-        Field::Poll => 0xFFFF,
+        Field::Limit(store) | Field::Remaining(store) => store_most(store),
     }
 }
 
@@ -50,18 +49,12 @@ pub fn cell_most(cell: Cell) -> u64
     ensures { result ≡ cell_most cell }
 {
     match cell {
-        Cell::Initialised => 1,
+        Cell::Initialised | Cell::Written(_) | Cell::Error => 1,
         Cell::Field(field) => field_most(field),
-        Cell::Written(_) => 1,
-        Cell::Missing(_) => 0xFF,
-        Cell::Error => 1,
-        Cell::Place(_) => 0xFF,
-        Cell::Oldest(_) => 0xFF,
-        Cell::Waiting(_) => 0xFF,
+        Cell::Missing(_) | Cell::Place(_) | Cell::Oldest(_) | Cell::Waiting(_) => 0xFF,
+        Cell::Timeouts | Cell::Outtimeouts => 0xFF,
         Cell::Gathered => 8,
-        Cell::Timeouts => 0xFF,
         Cell::Out => 9,
-        Cell::Outtimeouts => 0xFF,
     }
 }
 
@@ -74,7 +67,7 @@ fn store_size(store: Store) -> u64
 fn table_size(table: Table) -> u64
     ensures { (result ≡ table_size table) × (result ≤ 32768) }
 {
-    size(table) as u64
+    u64::from(size(table))
 }
 
 // The size at which a thing is lent as usual.

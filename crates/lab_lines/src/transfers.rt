@@ -1,89 +1,62 @@
 // A transfer as five numbers: command, reading, N, words along, start.
-ghost use Rattle.std.specs.Prelude.{◌≡◌};
-ghost use Rattle.lab_lines.specs.Asked.{only, moving, transfer_of, all_bytes, five_asked};
+ghost use Rattle.std.specs.Prelude.{◌≡◌, option_and_then};
+ghost use Rattle.lab_lines.specs.Ranges.{within};
+ghost use Rattle.lab_lines.specs.Asked.{moving, transfer_of, five_asked};
 
 use crate::ranges::up_to;
-use decimals::{NONE, Number, Numbers};
+use decimals::Number;
 use lab_sets::Change;
 use tables::{Header, Table, Transfer};
 
 // A load, whose start is 0, or a read.
-fn moving(table: Table, reading: u8, n: u8, along: u8, start: u8) -> Change
+// The line's own numbers, here and below, as `moving` and `transfer_of` have them; any other number is refused in the last arm.
+#[tactic(auto, unfolding(crate::specs::Asked::moving))]
+fn moving(table: Table, reading: u8, n: u8, along: u8, start: u8) -> Option<Change>
     ensures { result ≡ moving table reading n along start }
 {
     let header = Header { table, n };
-    if (reading == 0) & (start == 0) {
-        return Change::Transfer(Transfer::Load { header, k: along });
-    }
-    if reading == 1 {
-        return Change::Transfer(Transfer::Read {
+    let transfer = match (reading, start) {
+        (0, 0) => Transfer::Load { header, k: along },
+        (1, _) => Transfer::Read {
             header,
             k: along,
             start,
-        });
-    }
-    Change::Nothing
+        },
+        _ => return None,
+    };
+    Some(Change::Transfer(transfer))
 }
 
-fn transfer_of(command: u8, reading: u8, n: u8, along: u8, start: u8) -> Change
+#[tactic(auto, unfolding(crate::specs::Asked::transfer_of))]
+fn transfer_of(command: u8, reading: u8, n: u8, along: u8, start: u8) -> Option<Change>
     ensures { result ≡ transfer_of command reading n along start }
 {
-    if (command == 1) & ((reading == 0) & ((n == 1) & ((along == 0) & (start == 0)))) {
-        return Change::Transfer(Transfer::Address);
+    match (command, reading, n, along, start) {
+        (1, 0, 1, 0, 0) => Some(Change::Transfer(Transfer::Address)),
+        (5, ..) => moving(Table::Five, reading, n, along, start),
+        (6, ..) => moving(Table::Six, reading, n, along, start),
+        (7, ..) => moving(Table::Seven, reading, n, along, start),
+        _ => None,
     }
-    if command == 5 {
-        return moving(Table::Five, reading, n, along, start);
-    }
-    if command == 6 {
-        return moving(Table::Six, reading, n, along, start);
-    }
-    if command == 7 {
-        return moving(Table::Seven, reading, n, along, start);
-    }
-    Change::Nothing
 }
 
-// The one number of a line; none where it has more or fewer.
-pub fn only(numbers: Numbers) -> Number
-    ensures { result ≡ only numbers }
+// A number from 0 to 255.
+fn byte(n: Option<Number>) -> Option<u8>
+    ensures { result ≡ option_and_then (within 255) n }
 {
-    if numbers.count == 1 {
-        let list = numbers.list;
-        return list[0];
-    }
-    Number {
-        minus: false,
-        size: NONE,
-    }
+    Some(up_to(n?, 255)? as u8)
 }
 
-fn all_bytes(list: [Number; 9]) -> bool
-    ensures { result ≡ all_bytes list }
-{
-    let a = list[0];
-    let b = list[1];
-    let c = list[2];
-    let d = list[3];
-    let e = list[4];
-    up_to(a, 255) & (up_to(b, 255) & (up_to(c, 255) & (up_to(d, 255) & up_to(e, 255))))
-}
-
-pub fn five(list: [Number; 9]) -> Change
+#[tactic(auto, unfolding(crate::specs::Asked::five_asked))]
+pub fn five(list: [Option<Number>; 9]) -> Option<Change>
     ensures { result ≡ five_asked list }
 {
-    if !all_bytes(list) {
-        return Change::Nothing;
-    }
-    let command = list[0];
-    let reading = list[1];
-    let n = list[2];
-    let along = list[3];
-    let start = list[4];
+    let [command, reading, n, along, start, ..] = list;
     transfer_of(
-        command.size as u8,
-        reading.size as u8,
-        n.size as u8,
-        along.size as u8,
-        start.size as u8,
+        byte(command)?,
+        byte(reading)?,
+        byte(n)?,
+        byte(along)?,
+        byte(start)?,
     )
 }

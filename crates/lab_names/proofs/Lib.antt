@@ -1,3 +1,1 @@
 pub mod Spelling
-pub mod Runs
-pub mod Joined

@@ -1,6 +1,6 @@
 -- The names of the lines X and L, each behind its letter, and what they stand for.
 -- Assumes nothing.
-use Rattle.std.specs.Prelude.{ℕ, ◌-◌, cond, List, [], ◌∷◌, ◌++◌, leb, length, replicate}
+use Rattle.std.specs.Prelude.{ℕ, ◌-◌, cond, List, [], ◌∷◌, ◌++◌, leb, length, replicate, Option, Some, None}
 use Prim.Native.String.{String, [] as none, ◌∷◌ as ◌then◌}
 use Prim.Native.Char.{code}
 use Rattle.rows.specs.Same.{same_list}
@@ -11,7 +11,7 @@ use Rattle.lab_sets.specs.declared.Field.TheVariants.{Mode, Flags, Seconds, Mill
 use Rattle.lab_sets.specs.declared.Cell.TheVariants.{Initialised, Field as field, Written, Missing, Error, Place, Oldest, Waiting, Gathered, Timeouts, Out, Outtimeouts}
 use Rattle.lab_sets.specs.declared.Thing.TheVariants.{Room, Store as store, Table as table}
 use Rattle.lab_names.specs.declared.Part.{Part}
-use Rattle.lab_names.specs.declared.Part.TheVariants.{Unknown, Cell as cell, Value, Exchange, Address, Transfer, Thing as thing}
+use Rattle.lab_names.specs.declared.Part.TheVariants.{Cell as cell, Value, Exchange, Address, Transfer, Thing as thing}
 
 -- a name with its line's letter, and what it stands for
 pub record Name : Type 0 where
@@ -30,9 +30,9 @@ padded t = t ++ replicate (14 - length t) space
 abbrev pub named : String → Part → Name
 named s p = record { text = padded (characters s); part = p }
 
--- what stands past the table's end, where nothing reads
-abbrev pub no_name : Name
-no_name = record { text = []; part = Unknown }
+-- a name as the code's table has it
+abbrev pub entry : Name → (List ℕ × Part)
+entry n = (n.text, n.part)
 
 -- initialised and the fields of Initialise
 unfoldable pub state_names : List Name
@@ -130,16 +130,11 @@ other_names =
 unfoldable pub names : List Name
 names = state_names ++ (written_names ++ (missing_names ++ (port_names ++ (value_names ++ other_names))))
 
--- the texts of names, one behind the other
-unfoldable pub texts_of : List Name → List ℕ
-texts_of [] = []
-texts_of (n ∷ ns) = n.text ++ texts_of ns
-
 -- the first name that a text is
-unfoldable pub part_in : List ℕ → List Name → Part
-part_in t [] = Unknown
-part_in t (n ∷ ns) = cond (same_list t n.text) n.part (part_in t ns)
+unfoldable pub part_in : List ℕ → List Name → Option Part
+part_in t [] = None
+part_in t (n ∷ ns) = cond (same_list t n.text) (Some n.part) (part_in t ns)
 
 -- what the head of a line names
-unfoldable pub part_named : List ℕ → Part
-part_named head = cond (leb (length head) 14) (part_in (padded head) names) Unknown
+unfoldable pub part_named : List ℕ → Option Part
+part_named head = cond (leb (length head) 14) (part_in (padded head) names) None

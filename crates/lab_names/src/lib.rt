@@ -2,8 +2,7 @@
 #![tactic(auto)]
 
 mod names;
-mod parts;
-mod texts;
+mod table;
 
 use lab_sets::{Cell, Thing};
 pub use names::named;
@@ -11,7 +10,6 @@ pub use names::named;
 // What a name stands for. A parameter has its id.
 #[derive(Clone, Copy)]
 pub enum Part {
-    Unknown,
     Cell(Cell),
     Value(u8),
     Exchange,

@@ -8,7 +8,7 @@ use Rattle.lab_sets.specs.declared.Field.TheVariants.{Mode, Flags, Seconds, Mill
 use Rattle.lab_sets.specs.declared.Cell.{Cell}
 use Rattle.lab_sets.specs.declared.Cell.TheVariants.{Initialised, Field as field, Written, Missing, Error, Place, Oldest, Waiting, Gathered, Timeouts, Out, Outtimeouts}
 use Rattle.lab_sets.specs.declared.Change.{Change}
-use Rattle.lab_sets.specs.declared.Change.TheVariants.{Nothing, Cell as cell, Value, Exchange, Address, Transfer, Thing as thing}
+use Rattle.lab_sets.specs.declared.Change.TheVariants.{Cell as cell, Value, Exchange, Address, Transfer, Thing as thing}
 
 -- the most that so many bits say
 abbrev pub most : ℕ → ℕ
@@ -46,7 +46,6 @@ cell_most Outtimeouts = 255
 
 -- whether what a cell becomes is in its range: all else that is asked has a type of its own
 unfoldable pub in_range : Change → Bool
-in_range Nothing = true
 in_range (cell c n) = leb n (cell_most c)
 in_range (Value id v) = true
 in_range (Exchange x) = true

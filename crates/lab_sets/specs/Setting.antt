@@ -1,6 +1,6 @@
 -- "X name number ..": a part of the state set, whatever bound it then breaks.
 -- Assumes nothing.
-use Rattle.std.specs.Prelude.{ℕ, ◌-◌, Bool, true, false, cond, List, [], ◌∷◌, eqb, ltb, ℤ, get_or, set, replicate}
+use Rattle.std.specs.Prelude.{ℕ, ◌-◌, Bool, cond, List, [], ◌∷◌, eqb, ltb, ℤ, get_or, set, replicate}
 use Rattle.blocks.specs.declared.Ring.{Ring}
 use Rattle.packets.specs.declared.Fields.{Fields}
 use Rattle.params.specs.declared.Params.{Params}
@@ -15,8 +15,7 @@ use Rattle.lab_sets.specs.declared.Field.TheVariants.{Mode, Flags, Seconds, Mill
 use Rattle.lab_sets.specs.declared.Cell.{Cell}
 use Rattle.lab_sets.specs.declared.Cell.TheVariants.{Initialised, Field as field, Written, Missing, Error, Place, Oldest, Waiting, Gathered, Timeouts, Out, Outtimeouts}
 use Rattle.lab_sets.specs.declared.Change.{Change}
-use Rattle.lab_sets.specs.declared.Change.TheVariants.{Nothing, Cell as cell, Value, Exchange, Address, Transfer, Thing as thing}
-use Rattle.lab_sets.specs.declared.Changed.{Changed}
+use Rattle.lab_sets.specs.declared.Change.TheVariants.{Cell as cell, Value, Exchange, Address, Transfer, Thing as thing}
 
 -- the fields in their order, and the place of each
 abbrev pub field_numbers : Fields → List ℕ
@@ -83,7 +82,6 @@ cell_set Outtimeouts n p = with_pipe (counts_out n p.pipe) p
 
 -- what a line of X sets; a line of L sets nothing
 unfoldable pub part_set : Change → Pod → Pod
-part_set Nothing p = p
 part_set (cell c n) p = cell_set c n p
 part_set (Value id v) p = with_params (value_set id v p.params) p
 part_set (Exchange x) p = with_exchange x p
@@ -91,35 +89,11 @@ part_set (Address g) p = with_words (with_given g p.words) p
 part_set (Transfer t) p = with_words (with_transfer t p.words) p
 part_set (thing t n) p = p
 
-abbrev pub is_part : Change → Bool
-is_part Nothing = false
-is_part (cell c n) = true
-is_part (Value id v) = true
-is_part (Exchange x) = true
-is_part (Address g) = true
-is_part (Transfer t) = true
-is_part (thing t n) = false
-
-abbrev pub done : Pod → Changed
-done p = record { ok = true; pod = p }
-
-unfoldable pub set_of : Change → Pod → Changed
-set_of c p = record { ok = is_part c; pod = part_set c p }
-
 -- "a load's words so far are 0"
 unfoldable pub load_set : Change → List ℕ → List ℕ
-load_set Nothing l = l
 load_set (cell c n) l = l
 load_set (Value id v) l = l
 load_set (Exchange x) l = l
 load_set (Address g) l = l
 load_set (Transfer t) l = replicate 64 0
 load_set (thing t n) l = l
-
--- the state and the words of a load, after a line of X
-pub record Left : Type 0 where
-  pub changed : Changed
-  pub load : List ℕ
-
-abbrev pub left : Changed → List ℕ → Left
-left c l = record { changed = c; load = l }

@@ -8,7 +8,7 @@ mod setting;
 use blocks::Store;
 use rules::{Exchange, Pod};
 pub use setting::set;
-use tables::{Given, Table, Transfer};
+use tables::{Table, Transfer};
 
 // A field of Initialise and Update.
 #[derive(Clone, Copy)]
@@ -48,20 +48,13 @@ pub enum Thing {
 }
 
 // What a line of `X` or `L` asks for: a part with what it becomes, a thing with its size. A parameter has its id.
+// A cell has a number, a mark too, which is then 0 or 1: `in_range` and `cell_set` say it so.
 #[derive(Clone, Copy)]
 pub enum Change {
-    Nothing,
     Cell(Cell, u64),
     Value(u8, i32),
     Exchange(Exchange),
-    Address(Given),
+    Address(Option<u16>),
     Transfer(Transfer),
     Thing(Thing, usize),
-}
-
-// The state after a line of `X`, and whether the line was one.
-#[derive(Clone, Copy)]
-pub struct Changed {
-    pub ok: bool,
-    pub pod: Pod,
 }

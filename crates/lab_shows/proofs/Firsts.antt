@@ -4,21 +4,11 @@ use Prim.Native.Nat.{ℕ, ◌+◌, ◌*◌, ◌≤◌, ◌<◌}
 use native.Mathlib.Omega.{arith}
 use native.Mathlib.Numerals.{add-one}
 use mathlib.Core.Path.{◌≡◌, refl, sym, ap, ap₂, ◌∙◌}
-use mathlib.Core.Bool.{Bool, false}
-use mathlib.Core.List.{List, [], ◌∷◌, ◌++◌, map, map-append, append_assoc, append-nil}
-use lib.ListN.{length, take, drop, get_or, set, length-append}
-use lib.Seq.{sets, sets-eq, take-suc, take-suc-set, take_at, length-take-le}
+use mathlib.Core.List.{List, [], ◌∷◌, ◌++◌, append_assoc, append-nil}
+use lib.ListN.{length, take, drop, get_or, length-append}
+use lib.Seq.{sets, sets-eq, take-suc, take_at, length-take-le}
 use Rattle.numbers.specs.Numbers.{high_first}
-use Rattle.tables.specs.declared.Transfer.{Transfer}
-use Rattle.tables.specs.declared.Transfer.TheVariants.{Idle, Address, Load, Read}
-use Rattle.lab_shows.specs.Shown.{bit_of, transfer_numbers, word_bytes}
-
--- one mark more
-pub mark_in : (l : List ℕ) (w : List Bool) (i : ℕ) → i < length l → i < length w → take i l ≡ map bit_of (take i w)
-    → take (i + 1) (set l i (bit_of (get_or w i false))) ≡ map bit_of (take (i + 1) w)
-mark_in l w i h k e =
-    let b = get_or w i false in
-    rw (add-one i, take-suc-set l i (bit_of b) h, take-suc w i false k, map-append bit_of (take i w) (b ∷ []), e)
+use Rattle.lab_shows.specs.Shown.{word_bytes}
 
 words-both : (xs ys : List ℕ) → word_bytes (xs ++ ys) ≡ word_bytes xs ++ word_bytes ys
 unfolding word_bytes
@@ -46,11 +36,3 @@ word_in l ws i h k e =
     ∙ ap₂ (λ (x y : List ℕ). x ++ y) e (sym (one_word w))
     ∙ sym (words-both (take i ws) (w ∷ []))
     ∙ ap word_bytes (sym (take-suc ws i 0 h) ∙ ap (λ (k : ℕ). take k ws) (sym (add-one i)))
-
--- a transfer's numbers, one by one
-pub five_of : (t : Transfer) (rest : List ℕ)
-    → (let l = transfer_numbers t in get_or l 0 0 ∷ get_or l 1 0 ∷ get_or l 2 0 ∷ get_or l 3 0 ∷ get_or l 4 0 ∷ rest) ≡ transfer_numbers t ++ rest
-five_of Idle rest = refl
-five_of Address rest = refl
-five_of (Load h k) rest = refl
-five_of (Read h k start) rest = refl

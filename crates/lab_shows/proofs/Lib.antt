@@ -1,3 +1,3 @@
 pub mod Spell
 pub mod Firsts
-pub mod Short
+pub mod Mapped

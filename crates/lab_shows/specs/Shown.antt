@@ -1,6 +1,6 @@
 -- "`V` shows the state": its numbers in their order, and the CRCs of the memory.
 -- Assumes nothing.
-use Rattle.std.specs.Prelude.{ℕ, Bool, true, false, List, [], ◌∷◌, ◌++◌, map, ℤ, pos, negsuc, take}
+use Rattle.std.specs.Prelude.{ℕ, Bool, true, false, List, [], ◌∷◌, ◌++◌, map, ℤ, pos, negsuc, take, Option, Some, None}
 use Rattle.crc.specs.Crc.{crc_of}
 use Rattle.hexes.specs.Digits.{word_digits}
 use Rattle.numbers.specs.Numbers.{high_first}
@@ -9,8 +9,6 @@ use Rattle.orders.specs.Command.{table_number}
 use Rattle.packets.specs.declared.Fields.{Fields}
 use Rattle.tables.specs.declared.Transfer.{Transfer}
 use Rattle.tables.specs.declared.Transfer.TheVariants.{Idle, Address, Load, Read}
-use Rattle.tables.specs.declared.Given.{Given}
-use Rattle.tables.specs.declared.Given.TheVariants.{Nowhere, At}
 use Rattle.tables.specs.declared.Places.{Places}
 use Rattle.tables.specs.Tables.{three}
 use Rattle.pipe.specs.Output.{held_out}
@@ -18,10 +16,11 @@ use Rattle.rules.specs.declared.Pod.{Pod}
 use Rattle.rules.specs.State.{Lent}
 use Rattle.rules.specs.Obey.{exchange_code}
 use Rattle.decimals.specs.Printing.{spelled, naturals}
+use Rattle.lab_shows.specs.declared.Lent.{Lent as Parts}
 
 -- what is lent, of its parts
-abbrev pub lent_of : List ℕ → List ℕ → List ℕ → List ℕ → List ℕ → List ℕ → Lent
-lent_of p o five six seven load = record { priority = p; ordinary = o; tables = three five six seven; load = load }
+abbrev pub lent_of : Parts → Lent
+lent_of p = record { priority = p.priority.now; ordinary = p.ordinary.now; tables = three p.five.now p.six.now p.seven.now; load = p.load.now }
 
 -- `V`
 abbrev pub letter_v : ℕ
@@ -47,9 +46,9 @@ abbrev pub place_numbers : Places → List ℕ
 place_numbers p = p.five ∷ p.six ∷ p.seven ∷ []
 
 -- "the address or -1"
-abbrev pub address_number : Given → ℤ
-address_number Nowhere = negsuc 0
-address_number (At a) = pos a
+abbrev pub address_number : Option ℕ → ℤ
+address_number None = negsuc 0
+address_number (Some a) = pos a
 
 -- "initialised" and the fields; "the twelve values; the twelve marks"; the exchange, message error, the transfer and the three places; the
 -- address; "oldest and waiting of both stores; gathered; timeouts"

@@ -5,31 +5,24 @@ ghost use Rattle.rules.specs.Obey.{exchange_code};
 ghost use Rattle.lab_shows.specs.Shown.{bit_of, first_numbers, port_numbers, last_numbers, transfer_numbers};
 
 use blocks::Store;
-use packets::Fields;
 use rules::{Exchange, Pod};
-use tables::{Header, Table, Transfer};
+use tables::{Header, Transfer, number};
 
-fn bit(b: bool) -> u64
-    ensures { result ≡ bit_of b }
-{
-    if b { 1 } else { 0 }
-}
-
-pub fn first_numbers(pod: Pod) -> [u64; 10]
-    ensures { result ≡ first_numbers pod }
+pub fn first_numbers(pod: &Pod) -> [u64; 10]
+    ensures { result ≡ first_numbers pod.now }
 {
     let f = pod.fields;
     [
-        bit(pod.initialised),
-        f.mode as u64,
-        f.flags as u64,
-        f.seconds as u64,
-        f.milliseconds as u64,
-        f.prioritylimit as u64,
-        f.priorityremaining as u64,
-        f.memorylimit as u64,
-        f.memoryremaining as u64,
-        f.poll as u64,
+        u64::from(pod.initialised),
+        u64::from(f.mode),
+        u64::from(f.flags),
+        u64::from(f.seconds),
+        u64::from(f.milliseconds),
+        u64::from(f.prioritylimit),
+        u64::from(f.priorityremaining),
+        u64::from(f.memorylimit),
+        u64::from(f.memoryremaining),
+        u64::from(f.poll),
     ]
 }
 
@@ -37,23 +30,12 @@ pub fn first_numbers(pod: Pod) -> [u64; 10]
 pub fn marks(written: [bool; 12]) -> [u64; 12]
     ensures { result ≡ map bit_of written }
 {
-    let mut numbers = [0u64; 12];
-    for i in 0..12usize {
-        numbers[i] = bit(written[i]);
-    }
-    numbers
+    written.map(|on| u64::from(on))
 }
 
-fn table_number(table: Table) -> u64
-    ensures { result ≡ table_number table }
-{
-    match table {
-        Table::Five => 5,
-        Table::Six => 6,
-        Table::Seven => 7,
-    }
-}
-
+// The code of the open exchange, 0 for none. Stays a match to numbers: by `Code` each would be `u64::from(u8::from(Code::Status))`, no
+// plainer.
+#[tactic(auto, unfolding(packets::specs::Commands::command_row, packets::specs::Commands::command_place))]
 fn code(exchange: Exchange) -> u64
     ensures { result ≡ exchange_code exchange }
 {
@@ -61,23 +43,21 @@ fn code(exchange: Exchange) -> u64
         Exchange::Closed => 0,
         Exchange::Status => 0x91,
         Exchange::Read => 0x94,
-        Exchange::Receive(which) => match which {
-            Store::Priority => 0x95,
-            Store::Ordinary => 0x96,
-        },
+        Exchange::Receive(Store::Priority) => 0x95,
+        Exchange::Receive(Store::Ordinary) => 0x96,
     }
 }
 
+// A transfer as the five numbers that `V` prints, here and below, as `transfer_numbers` has them: all 0 for none.
 fn moving(header: Header, reading: u64, k: u8, start: u8) -> [u64; 5]
     ensures { result ≡ table_number header.table ∷ reading ∷ header.n ∷ k ∷ start ∷ [] }
 {
-    let table = header.table;
     [
-        table_number(table),
+        u64::from(number(header.table)),
         reading,
-        header.n as u64,
-        k as u64,
-        start as u64,
+        u64::from(header.n),
+        u64::from(k),
+        u64::from(start),
     ]
 }
 
@@ -93,42 +73,38 @@ fn transfer_numbers(transfer: Transfer) -> [u64; 5]
 }
 
 // Exchange, message error, transfer and read places.
-pub fn port_numbers(pod: Pod) -> [u64; 10]
-    ensures { result ≡ port_numbers pod }
+pub fn port_numbers(pod: &Pod) -> [u64; 10]
+    ensures { result ≡ port_numbers pod.now }
 {
-    let exchange = pod.exchange;
     let words = pod.words;
-    let transfer = words.transfer;
-    let places = words.places;
-    let t = transfer_numbers(transfer);
+    let [command, reading, n, along, start] = transfer_numbers(words.transfer);
     [
-        code(exchange),
-        bit(words.error),
-        t[0],
-        t[1],
-        t[2],
-        t[3],
-        t[4],
-        places.five as u64,
-        places.six as u64,
-        places.seven as u64,
+        code(pod.exchange),
+        u64::from(words.error),
+        command,
+        reading,
+        n,
+        along,
+        start,
+        u64::from(words.places.five),
+        u64::from(words.places.six),
+        u64::from(words.places.seven),
     ]
 }
 
 // The blocks of both stores, and the pipe.
-pub fn last_numbers(pod: Pod) -> [u64; 6]
-    ensures { result ≡ last_numbers pod }
+pub fn last_numbers(pod: &Pod) -> [u64; 6]
+    ensures { result ≡ last_numbers pod.now }
 {
     let p = pod.priority;
     let o = pod.ordinary;
-    let pipe = pod.pipe;
-    let input = pipe.input;
+    let input = pod.pipe.input;
     [
         p.oldest as u64,
         p.waiting as u64,
         o.oldest as u64,
         o.waiting as u64,
         input.gathered as u64,
-        input.timeouts as u64,
+        u64::from(input.timeouts),
     ]
 }

@@ -5,7 +5,8 @@ use native.Mathlib.Omega.{arith}
 use mathlib.Core.Path.{◌≡◌, refl, ap, ◌∙◌}
 use mathlib.Core.Bool.{◌||◌}
 use mathlib.Core.List.{List}
-use lib.Dec.{ltb, eqb}
+use lib.Dec.{eqb}
+use Rattle.std.proofs.Common.{Option, Some, None}
 use lib.ListN.{length, take, drop, get_or, length-drop}
 use lib.Seq.{sets}
 use Rattle.rows.proofs.Bool.{by-test}
@@ -15,33 +16,35 @@ use Rattle.items.specs.Text.{ItemsRead, bytes_in, words_in}
 use Rattle.lines.specs.Letters.{letter_p, letter_d, letter_b, letter_c, letter_w, letter_r, letter_s, letter_a, letter_i, letter_t, letter_o, letter_k, letter_z, small_p, small_o}
 use Rattle.lines.specs.Asked.{Asked, Asking, packet, put, samples, ask_out, other, wholly, sampling, is_put, one_byte, packet_in, out_in, put_in, samples_in, bare_asked, word_asked, byte_asked, short_asked, line_of, say_line}
 use Rattle.lines.proofs.Stored.{stored, bytes_most, words-most}
-use Rattle.line_calls.specs.Calls.{heard_line}
+use Rattle.lines.proofs.Unread.{sampling_bytes}
+use Rattle.line_calls.specs.Calls.{heard, heard_line}
 
 -- a run of bytes, whole or not, whatever it is asked for
 bytes-heard : (f : List ℕ → Asked) → ((vs bs ws : List ℕ) → heard_line (say_line (f vs)) bs ws ≡ f (take (length vs) bs))
-    → (r : ItemsRead) (bs ws : List ℕ) → length r.values ≤ length bs
+    → (r : ItemsRead ℕ) (bs ws : List ℕ) → length r.values ≤ length bs
     → heard_line (say_line (wholly r f)) (sets bs 0 r.values) ws ≡ wholly r f
-unfolding heard_line say_line
+unfolding heard say_line
 bytes-heard f says r bs ws h =
     by-test (λ (a : Asked). heard_line (say_line a) (sets bs 0 r.values) ws ≡ a) r.whole
     (λ _. says r.values (sets bs 0 r.values) ws ∙ ap f (stored r.values bs h)) (λ _. refl)
 
 packet_says : (vs bs ws : List ℕ) → heard_line (say_line (packet vs)) bs ws ≡ packet (take (length vs) bs)
-unfolding heard_line say_line
+unfolding heard say_line
 packet_says vs bs ws = refl
 
 put_says : (s : Store) (vs bs ws : List ℕ) → heard_line (say_line (put s vs)) bs ws ≡ put s (take (length vs) bs)
-unfolding heard_line say_line
+unfolding heard say_line
 put_says s vs bs ws = refl
 
 out_says : (vs bs ws : List ℕ) → heard_line (say_line (ask_out vs)) bs ws ≡ ask_out (take (length vs) bs)
-unfolding heard_line say_line
+unfolding heard say_line
 out_says vs bs ws = refl
 
-sampling-heard : (k : ℕ) (r : ItemsRead) (bs ws : List ℕ) → length r.values ≤ length ws
-    → heard_line (say_line (sampling k r).asked) bs (sets ws 0 r.values) ≡ (sampling k r).asked
-unfolding heard_line say_line
-sampling-heard k r bs ws h =
+sampling-heard : (k : Option ℕ) (r : ItemsRead ℕ) (bs ws : List ℕ) → length r.values ≤ length ws
+    → heard_line (say_line (sampling k r).asked) bs (sets ws 0 (sampling k r).words) ≡ (sampling k r).asked
+unfolding heard say_line
+sampling-heard None r bs ws h = refl
+sampling-heard (Some k) r bs ws h =
     by-test (λ (a : Asked). heard_line (say_line a) bs (sets ws 0 r.values) ≡ a) r.whole (λ _. ap (samples k) (stored r.values ws h)) (λ _. refl)
 
 -- the lines that lie in no memory
@@ -49,16 +52,18 @@ module _ (bs ws : List ℕ) where
   abbrev Again : Asked → Type 0
   Again a = heard_line (say_line a) bs ws ≡ a
 
-  word_heard_lem : (c w : ℕ) → Again (word_asked c w)
-  unfolding heard_line say_line word_asked
-  word_heard_lem c w = by-test Again (ltb w 65536) (λ _. by-test Again (eqb c letter_c) (λ _. refl) (λ _. refl)) (λ _. refl)
+  word_heard_lem : (c : ℕ) (w : Option ℕ) → Again (word_asked c w)
+  unfolding heard say_line
+  word_heard_lem c None = refl
+  word_heard_lem c (Some w) = by-test Again (eqb c letter_c) (λ _. refl) (λ _. refl)
 
-  byte_heard : (b : ℕ) → Again (byte_asked b)
-  unfolding heard_line say_line byte_asked
-  byte_heard b = by-test Again (ltb b 256) (λ _. refl) (λ _. refl)
+  byte_heard : (b : Option ℕ) → Again (byte_asked b)
+  unfolding heard say_line
+  byte_heard None = refl
+  byte_heard (Some b) = refl
 
   bare-heard : (c : ℕ) → Again (bare_asked c)
-  unfolding heard_line say_line bare_asked
+  unfolding heard say_line bare_asked
   bare-heard c =
       by-test Again (eqb c letter_d) (λ _. refl)
       (λ _. by-test Again (eqb c letter_k) (λ _. refl)
@@ -68,7 +73,7 @@ module _ (bs ws : List ℕ) where
       (λ _. by-test Again (eqb c letter_z) (λ _. refl) (λ _. refl))))))
 
   other-heard : Again other
-  unfolding heard_line say_line
+  unfolding heard say_line
   other-heard = refl
 
   short_heard : (c : ℕ) (t : List ℕ) → Again (short_asked c t)
@@ -103,9 +108,10 @@ module _ (t bs : List ℕ) (hb : length t ≤ 3 * length bs) where
     samples_heard : Heard (samples_in t)
     unfolding samples_in
     samples_heard =
-        by-test Heard (ltb (one_byte (take 3 (drop 1 t))) 256)
-        (λ _. sampling-heard (one_byte (take 3 (drop 1 t))) (words_in (drop 4 t)) bs ws (omega (arith, words-most (drop 4 t), length-drop 4 t)))
-        (λ _. other-heard bs ws)
+        let k = one_byte (take 3 (drop 1 t)) in
+        let r = words_in (drop 4 t) in
+        ap (λ (x : List ℕ). heard_line (say_line (sampling k r).asked) x (sets ws 0 (sampling k r).words)) (ap (sets bs 0) (sampling_bytes k r))
+        ∙ sampling-heard k r bs ws (omega (arith, words-most (drop 4 t), length-drop 4 t))
 
     pub line-heard : Heard (line_of t)
     unfolding line_of out_in

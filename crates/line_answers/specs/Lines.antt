@@ -1,7 +1,6 @@
 -- What a line is to a program.
 -- Assumes nothing.
-use Rattle.std.specs.Prelude.{ℕ, Bool, false, List, []}
-use Rattle.std.proofs.Math.Option.{Option, none, some}
+use Rattle.std.specs.Prelude.{ℕ, Bool, false, List, [], Option, Some, None}
 use Rattle.rules.specs.World.{Call}
 use Rattle.lines.specs.Asked.{Asked, Asking, packet_in, line_of}
 use Rattle.line_calls.specs.declared.Sizes.{Sizes}
@@ -25,8 +24,8 @@ own_in Lab t = is_own t
 
 -- other sizes are for one call: after it everything is lent at its right size again
 abbrev pub sizes_if : Option Call → Sizes → Sizes
-sizes_if none s = s
-sizes_if (some c) s = right_sizes
+sizes_if None s = s
+sizes_if (Some c) s = right_sizes
 
 unfoldable pub sizes_after : Asked → Sizes → Sizes
 sizes_after a s = sizes_if (call_of a []) s

@@ -1,142 +1,86 @@
-// A line's answer, and the answers of a piece's lines.
-ghost use Rattle.std.specs.Prelude.{◌+◌, ◌≤◌, length};
-ghost use Rattle.line_calls.specs.Memory.{memory};
-ghost use Rattle.lines.specs.Turns.{Turns};
-ghost use Rattle.line_answers.specs.Turns.{Within, CallAnswered, TextAnswered, AnswersText, standing, Fine, Spent};
+// A line's answer, and what is gathered written: the loop over the lines is that of `pieces`.
+ghost use Rattle.std.specs.Prelude.{◌≡◌, ◌+◌, ◌≤◌, true, List, ℕ, leb, length};
+ghost use Rattle.line_calls.specs.Memory.{SizesFit};
+ghost use Rattle.line_answers.specs.Turns.{CallAnswered, TextAnswered, AnswersText};
 
+use crate::Bench;
 use crate::asking::{asked, next_sizes, own};
-use crate::{Between, Program, Standing};
 use lab_calls::own_line;
 use line_calls::answer;
-use lines::{Found, next_line, text};
+use pieces::{Answers, flush};
 
 // No line of output has more than 1,200 characters: with fewer left, what is gathered is written first.
 const ENOUGH: usize = 64336;
 
 // A text's call and its answer.
-fn called(
-    program: Program,
-    text: &[u8],
-    between: Between,
-    bytes: &mut [u8; 65536],
-    words: &mut [u16; 65536],
-    room: &mut [u8; 1284],
-    priority: &mut [u8; 5120],
-    ordinary: &mut [u8; 33792],
-    five: &mut [u16; 1088],
-    six: &mut [u16; 1152],
-    seven: &mut [u16; 1088],
-    load: &mut [u16; 64],
-    out: &mut [u8; 65536],
-) -> Between
+// `SizesFit` is no invariant of `Sizes`: `size_set` of lab_calls gives a size any number, since `in_range` holds of each, and only the
+// reading of a line bounds it. A text is a slice, so the bound of its length is a clause, here and below, as in `Answers`.
+fn called(text: &[u8], bench: &mut Bench)
     requires text_len_bound { length text.now ≤ 196606 }
-    requires within { Within between.sizes }
-    requires at_bound { between.at + 784 ≤ 65536 }
-    ensures { CallAnswered program text.now between result (memory room.old priority.old ordinary.old five.old six.old seven.old load.old) (memory room.new priority.new ordinary.new five.new six.new seven.new load.new) out.old out.new }
+    requires within { SizesFit bench.old.sizes }
+    requires at_bound { bench.old.out.at + 784 ≤ 65536 }
+    ensures { CallAnswered bench.old.program text.now bench.old bench.new }
 {
-    let sizes = between.sizes;
-    let pod = between.pod;
-    let at = between.at;
-    let line = asked(program, text, bytes, words);
-    let spoken = answer(
-        line, pod, sizes, bytes, words, room, priority, ordinary, five, six, seven, load, out, at,
+    let line = asked(bench.program, text, &mut bench.bytes, &mut bench.words);
+    answer(
+        line,
+        &mut bench.pod,
+        bench.sizes,
+        &bench.bytes,
+        &bench.words,
+        &mut bench.memory,
+        &mut bench.out,
     );
-    let next = spoken.pod;
-    Between {
-        pod: next,
-        sizes: next_sizes(line, sizes),
-        at: spoken.at,
-    }
+    bench.sizes = next_sizes(line, bench.sizes);
 }
 
 // A text answered: a line of lab's own, or a call.
-pub fn answered(
-    program: Program,
-    text: &[u8],
-    between: Between,
-    bytes: &mut [u8; 65536],
-    words: &mut [u16; 65536],
-    room: &mut [u8; 1284],
-    priority: &mut [u8; 5120],
-    ordinary: &mut [u8; 33792],
-    five: &mut [u16; 1088],
-    six: &mut [u16; 1152],
-    seven: &mut [u16; 1088],
-    load: &mut [u16; 64],
-    out: &mut [u8; 65536],
-) -> Between
+pub fn answered(text: &[u8], bench: &mut Bench)
     requires text_len_bound { length text.now ≤ 196606 }
-    requires within { Within between.sizes }
-    requires at_bound { between.at + 1200 ≤ 65536 }
-    ensures { TextAnswered program text.now between result (memory room.old priority.old ordinary.old five.old six.old seven.old load.old) (memory room.new priority.new ordinary.new five.new six.new seven.new load.new) out.old out.new }
+    requires within { SizesFit bench.old.sizes }
+    requires at_bound { bench.old.out.at + 1200 ≤ 65536 }
+    ensures { TextAnswered bench.old.program text.now bench.old bench.new }
 {
-    if own(program, text) {
-        let pod = between.pod;
-        let sizes = between.sizes;
-        let at = between.at;
-        let noted = own_line(
-            text, pod, sizes, priority, ordinary, five, six, seven, load, out, at,
+    if own(bench.program, text) {
+        return own_line(
+            text,
+            &mut bench.pod,
+            &mut bench.sizes,
+            &mut bench.memory,
+            &mut bench.out,
         );
-        let next = noted.pod;
-        let lent = noted.sizes;
-        return Between {
-            pod: next,
-            sizes: lent,
-            at: noted.at,
-        };
     }
-    called(
-        program, text, between, bytes, words, room, priority, ordinary, five, six, seven, load, out,
-    )
+    called(text, bench);
 }
 
-// The lines of a piece, one after another, until the piece ends or the output is nearly full.
-pub fn gather(
-    program: Program,
-    piece: &[u8],
-    line: &mut [u8; 196606],
-    start: Standing,
-    bytes: &mut [u8; 65536],
-    words: &mut [u16; 65536],
-    room: &mut [u8; 1284],
-    priority: &mut [u8; 5120],
-    ordinary: &mut [u8; 33792],
-    five: &mut [u16; 1088],
-    six: &mut [u16; 1152],
-    seven: &mut [u16; 1088],
-    load: &mut [u16; 64],
-    out: &mut [u8; 65536],
-) -> Standing
-    requires fine { Fine start (length piece.now) }
-    requires piece_len_bound { length piece.now ≤ 65536 }
-    ensures turns { Turns (AnswersText program) piece.now (standing start line.old (memory room.old priority.old ordinary.old five.old six.old seven.old load.old) out.old) (standing result line.new (memory room.new priority.new ordinary.new five.new six.new seven.new load.new) out.new) }
-    ensures fine_2 { Fine result (length piece.now) }
-    ensures spent { Spent result (length piece.now) }
-{
-    let mut cursor = start.cursor;
-    let mut between = start.between;
-    while (cursor.from < piece.len()) & (between.at <= ENOUGH) {
-        let cut = next_line(piece, line, cursor);
-        cursor = cut.cursor;
-        let found = cut.found;
-        if let Found::More = found {
-            continue;
-        }
-        between = answered(
-            program,
-            text(found, piece, line),
-            between,
-            bytes,
-            words,
-            room,
-            priority,
-            ordinary,
-            five,
-            six,
-            seven,
-            load,
-            out,
-        );
+// Beside the impl of `aircraft_loop` no plainer as one: `ENOUGH` is of the longest line that a program writes, the bodies are a line
+// each, and what `write` keeps is named by the fields of this state.
+impl Answers for Bench {
+    ghost answers = { AnswersText };
+
+    ghost Fine = { λ b. SizesFit b.sizes };
+
+    ghost room = { λ b. leb b.out.at 64336 };
+
+    fn has_room(&self) -> bool {
+        self.out.at <= ENOUGH
     }
-    Standing { cursor, between }
+
+    fn answer(&mut self, text: &[u8]) {
+        answered(text, self);
+    }
+
+    // The pod, the sizes and the memory stay so from piece to piece.
+    fn write(&mut self) -> bool
+        requires { SizesFit self.old.sizes }
+        ensures fine { SizesFit self.new.sizes }
+        ensures has_room { leb self.new.out.at 64336 ≡ true }
+        ensures program { self.new.program ≡ self.old.program }
+        ensures pod { self.new.pod ≡ self.old.pod }
+        ensures sizes { self.new.sizes ≡ self.old.sizes }
+        ensures memory { self.new.memory ≡ self.old.memory }
+        ensures written { self.new.out.at ≡ 0 }
+    {
+        flush(&mut self.out)
+    }
 }

@@ -1,7 +1,6 @@
 -- The call that a line asks, and what it makes of the world.
 -- Assumes nothing.
-use Rattle.std.specs.Prelude.{ℕ, List, [], take}
-use Rattle.std.proofs.Math.Option.{Option, none, some}
+use Rattle.std.specs.Prelude.{ℕ, List, [], take, Option, Some, None}
 use Rattle.rows.specs.Rows.{gave}
 use Rattle.rules.specs.Refusals.{done}
 use Rattle.rules.specs.Families as family
@@ -12,43 +11,47 @@ use Rattle.lines.specs.declared.Line.TheVariants as line
 use Rattle.lines.specs.Asked.{Asked, packet, deadline, put, command, data_in, data_out, status, samples, ask_byte, ask_timeout, ask_out, ask_taken, power, other}
 
 -- what a line that was read asks: its bytes and words are the first ones of those that lie in lent memory
-unfoldable pub heard_line : Line → List ℕ → List ℕ → Asked
-heard_line (line.Packet n) bs ws = packet (take n bs)
-heard_line line.Deadline bs ws = deadline
-heard_line (line.Put s n) bs ws = put s (take n bs)
-heard_line (line.Command w) bs ws = command w
-heard_line (line.Data w) bs ws = data_in w
-heard_line line.Read bs ws = data_out
-heard_line line.Status bs ws = status
-heard_line (line.Samples k n) bs ws = samples k (take n ws)
-heard_line (line.Byte b) bs ws = ask_byte b
-heard_line line.Timeout bs ws = ask_timeout
-heard_line (line.Out n) bs ws = ask_out (take n bs)
-heard_line line.Taken bs ws = ask_taken
-heard_line line.Power bs ws = power
-heard_line line.Other bs ws = other
+unfoldable pub heard : Line → List ℕ → List ℕ → Asked
+heard (line.Packet n) bs ws = packet (take n bs)
+heard line.Deadline bs ws = deadline
+heard (line.Put s n) bs ws = put s (take n bs)
+heard (line.Command w) bs ws = command w
+heard (line.Data w) bs ws = data_in w
+heard line.Read bs ws = data_out
+heard line.Status bs ws = status
+heard (line.Samples k n) bs ws = samples k (take n ws)
+heard (line.Byte b) bs ws = ask_byte b
+heard line.Timeout bs ws = ask_timeout
+heard (line.Out n) bs ws = ask_out (take n bs)
+heard line.Taken bs ws = ask_taken
+heard line.Power bs ws = power
+
+-- and another line, which asks nothing
+abbrev pub heard_line : Option Line → List ℕ → List ℕ → Asked
+heard_line None bs ws = other
+heard_line (Some l) bs ws = heard l bs ws
 
 -- the call, with the answer room that it is lent; any other line calls nothing
 unfoldable pub call_of : Asked → List ℕ → Option Call
-call_of (packet bs) room = some (rules.packet bs room)
-call_of deadline room = some (rules.lone family.deadline)
-call_of (put s bs) room = some (rules.put s bs)
-call_of (command w) room = some (rules.word (family.command w))
-call_of (data_in w) room = some (rules.word (family.data_in w))
-call_of data_out room = some (rules.word family.data_out)
-call_of status room = some (rules.word family.status)
-call_of (samples k ws) room = some (rules.samples k ws)
-call_of (ask_byte b) room = some (rules.lone (family.pipe (family.byte b)))
-call_of ask_timeout room = some (rules.lone (family.pipe family.timeout))
-call_of (ask_out bs) room = some (rules.lone (family.pipe (family.packet_out bs)))
-call_of ask_taken room = some (rules.lone (family.pipe family.taken))
-call_of power room = some rules.power
-call_of other room = none
+call_of (packet bs) room = Some (rules.packet bs room)
+call_of deadline room = Some (rules.lone family.deadline)
+call_of (put s bs) room = Some (rules.put s bs)
+call_of (command w) room = Some (rules.word (family.command w))
+call_of (data_in w) room = Some (rules.word (family.data_in w))
+call_of data_out room = Some (rules.word family.data_out)
+call_of status room = Some (rules.word family.status)
+call_of (samples k ws) room = Some (rules.samples k ws)
+call_of (ask_byte b) room = Some (rules.lone (family.pipe (family.byte b)))
+call_of ask_timeout room = Some (rules.lone (family.pipe family.timeout))
+call_of (ask_out bs) room = Some (rules.lone (family.pipe (family.packet_out bs)))
+call_of ask_taken room = Some (rules.lone (family.pipe family.taken))
+call_of power room = Some rules.power
+call_of other room = None
 
 -- a call that is none changes nothing and tells nothing
 abbrev pub step_if : Option Call → World → Stepped
-step_if none w = stepped (gave done) [] w.pod w.lent
-step_if (some c) w = step w c
+step_if None w = stepped (gave done) [] w.pod w.lent
+step_if (Some c) w = step w c
 
 unfoldable pub line_step : Asked → List ℕ → World → Stepped
 line_step a room w = step_if (call_of a room) w

@@ -1,23 +1,15 @@
 -- The memory of a program, which it lends to the calls.
 -- Assumes nothing.
-use Rattle.std.specs.Prelude.{ℕ, ◌*◌, ◌≤◌, List, [], length, take, drop}
+use Rattle.std.specs.Prelude.{ℕ, ◌*◌, ◌≤◌, List, [], take, drop}
 use Rattle.blocks.specs.declared.Store.TheVariants.{Priority, Ordinary}
 use Rattle.blocks.specs.Stores.{capacity_of}
 use Rattle.orders.specs.declared.Table.TheVariants.{Five, Six, Seven}
 use Rattle.tables.specs.Tables.{three, table_size}
 use Rattle.rules.specs.State.{Lent}
+use Rattle.line_calls.specs.declared.Memory.{Memory}
 use Rattle.line_calls.specs.declared.Sizes.{Sizes}
 
 -- the answer room, and all else that is lent
-pub record Memory : Type 0 where
-  pub room : List ℕ
-  pub priority : List ℕ
-  pub ordinary : List ℕ
-  pub five : List ℕ
-  pub six : List ℕ
-  pub seven : List ℕ
-  pub load : List ℕ
-
 abbrev pub memory : List ℕ → List ℕ → List ℕ → List ℕ → List ℕ → List ℕ → List ℕ → Memory
 memory room p o five six seven load =
     record { room = room; priority = p; ordinary = o; five = five; six = six; seven = seven; load = load }
@@ -43,10 +35,10 @@ behind s m =
     (drop s.six m.six) (drop s.seven m.seven) []
 
 -- no size is over that of the thing
-pub record SizesFit (s : Sizes) (m : Memory) : Type 0 where
-  pub room : s.room ≤ length m.room
-  pub priority : s.priority ≤ length m.priority
-  pub ordinary : s.ordinary ≤ length m.ordinary
-  pub five : s.five ≤ length m.five
-  pub six : s.six ≤ length m.six
-  pub seven : s.seven ≤ length m.seven
+pub record SizesFit (s : Sizes) : Type 0 where
+  pub room : s.room ≤ 1284
+  pub priority : s.priority ≤ 5120
+  pub ordinary : s.ordinary ≤ 33792
+  pub five : s.five ≤ 1088
+  pub six : s.six ≤ 1152
+  pub seven : s.seven ≤ 1088

@@ -1,19 +1,19 @@
-// A line's call, over what it is lent.
-ghost use Rattle.std.specs.Prelude.{◌+◌, ◌≤◌, length};
-ghost use Rattle.line_calls.specs.Calls.{heard_line};
+// A line's call, and its answer written.
+ghost use Rattle.std.specs.Prelude.{◌+◌, ◌≤◌};
+ghost use Rattle.line_calls.specs.Calls.{heard};
 ghost use Rattle.line_calls.specs.Memory.{memory};
 ghost use Rattle.line_calls.specs.Promise.{LineAnswered};
 
-use crate::LineSaid;
-use crate::speaking::{framed, passed, replied, said, worded};
+use answers::{put_done, put_frames, put_packet, put_sent, put_word};
 use blocks::Store;
-use items::{front, front_words};
+use items::{Output, front};
 use lines::Line;
-use rules::{Answer, Called, Pod};
+use rules::Pod;
 
-pub fn reply(
+// A line's call. The parts of the memory stand by themselves, since parts behind one reference can't be lent to a call together.
+pub fn reply<const N: usize>(
     line: Line,
-    pod: Pod,
+    pod: &mut Pod,
     bytes: &[u8],
     words: &[u16],
     room: &mut [u8],
@@ -23,76 +23,39 @@ pub fn reply(
     six: &mut [u16],
     seven: &mut [u16],
     load: &mut [u16; 64],
-    out: &mut [u8],
-    at: usize,
-) -> LineSaid
-    requires { at + 784 ≤ length out.old }
-    ensures { LineAnswered (heard_line line bytes.now words.now) pod (memory room.old priority.old ordinary.old five.old six.old seven.old load.old) (memory room.new priority.new ordinary.new five.new six.new seven.new load.new) result out.old out.new at }
+    out: &mut Output<N>,
+)
+    requires { out.old.at + 784 ≤ N }
+    ensures { LineAnswered (heard line bytes.now words.now) pod.old pod.new (memory room.old priority.old ordinary.old five.old six.old seven.old load.old) (memory room.new priority.new ordinary.new five.new six.new seven.new load.new) out.old out.new }
 {
     match line {
+        // No answer is longer than 260 bytes.
         Line::Packet(n) => {
-            let called = pod::packet(
-                pod,
-                front(bytes, n),
-                room,
-                priority,
-                ordinary,
-                five,
-                six,
-                seven,
-            );
-            replied(called, room, out, at)
+            let bytes = front(bytes, n);
+            let count = pod::packet(pod, bytes, room, priority, ordinary, five, six, seven);
+            put_packet(out, count, front(room, 260));
         }
-        Line::Deadline => said(pod::deadline(pod), b'D', out, at),
-        Line::Put(which, n) => match which {
-            Store::Priority => said(
-                pod::put(pod, Store::Priority, priority, front(bytes, n)),
-                b'B',
-                out,
-                at,
-            ),
-            Store::Ordinary => said(
-                pod::put(pod, Store::Ordinary, ordinary, front(bytes, n)),
-                b'B',
-                out,
-                at,
-            ),
-        },
-        Line::Command(word) => worded(
-            pod,
-            pod::command_word(pod, word, five, six, seven),
-            b'C',
+        Line::Deadline => put_done(out, b'D', pod::deadline(pod)),
+        // An arm for each store, which is lent its own part of the memory: to pick the part first would be a match within the arm.
+        Line::Put(Store::Priority, n) => put_done(
             out,
-            at,
+            b'B',
+            pod::put(pod, Store::Priority, priority, front(bytes, n)),
         ),
-        Line::Data(word) => worded(
-            pod,
-            pod::data_in(pod, word, load, five, six, seven),
-            b'W',
+        Line::Put(Store::Ordinary, n) => put_done(
             out,
-            at,
+            b'B',
+            pod::put(pod, Store::Ordinary, ordinary, front(bytes, n)),
         ),
-        Line::Read => worded(pod, pod::data_out(pod, five, six, seven), b'R', out, at),
-        Line::Status => worded(pod, pod::status_word(pod), b'S', out, at),
-        Line::Samples(check, n) => framed(
-            pod,
-            pod::samples(pod, check, front_words(words, n)),
-            out,
-            at,
-        ),
-        Line::Byte(byte) => passed(pod::pipe_byte(pod, byte), b'I', out, at),
-        Line::Timeout => passed(pod::pipe_timeout(pod), b'T', out, at),
-        Line::Out(n) => passed(pod::packet_out(pod, front(bytes, n)), b'O', out, at),
-        Line::Taken => passed(pod::taken(pod), b'K', out, at),
-        Line::Power => said(pod::power_on(pod, five, six, seven), b'Z', out, at),
-        Line::Other => said(
-            Called {
-                answer: Answer::Done,
-                pod,
-            },
-            b'?',
-            out,
-            at,
-        ),
+        Line::Command(word) => put_done(out, b'C', pod::command_word(pod, word, five, six, seven)),
+        Line::Data(word) => put_done(out, b'W', pod::data_in(pod, word, load, five, six, seven)),
+        Line::Read => put_word(out, b'R', pod::data_out(pod, five, six, seven)),
+        Line::Status => put_word(out, b'S', pod::status_word(pod)),
+        Line::Samples(check, n) => put_frames(out, pod::samples(pod, check, front(words, n))),
+        Line::Byte(byte) => put_sent(out, b'I', pod::pipe_byte(pod, byte)),
+        Line::Timeout => put_sent(out, b'T', pod::pipe_timeout(pod)),
+        Line::Out(n) => put_sent(out, b'O', pod::packet_out(pod, front(bytes, n))),
+        Line::Taken => put_sent(out, b'K', pod::taken(pod)),
+        Line::Power => put_done(out, b'Z', pod::power_on(pod, five, six, seven)),
     }
 }

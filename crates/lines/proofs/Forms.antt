@@ -5,11 +5,11 @@ use native.Mathlib.Omega.{arith}
 use mathlib.Core.Path.{◌≡◌, refl, ap, ◌∙◌}
 use mathlib.Core.List.{List, [], ◌∷◌, ◌++◌}
 use lib.Dec.{eqb}
-use borrow.Author.Tests.{lt-ltb, eqb-true}
+use borrow.Author.Tests.{eqb-true}
 use Rattle.hexes.specs.Digits.{byte_digits, word_digits}
 use Rattle.blocks.specs.declared.Store.TheVariants.{Priority, Ordinary}
 use Rattle.items.specs.Text.{spell, bytes_in}
-use Rattle.lines.specs.Asked.{packet, deadline, put, command, data_in, data_out, status, samples, ask_byte, ask_timeout, ask_out, ask_taken, power, other, asking, one_byte, one_word, packet_in, out_in, put_in, samples_in, bare_asked, word_asked, byte_asked, short_asked, line_of}
+use Rattle.lines.specs.Asked.{packet, deadline, put, command, data_in, data_out, status, samples, ask_byte, ask_timeout, ask_out, ask_taken, power, other, asking, one_byte, one_word, packet_in, out_in, put_in, samples_in, bare_asked, short_asked, line_of}
 use Rattle.rows.proofs.Bool.{split}
 use Rattle.items.proofs.Laws.{Under, spell_words, byte_back, word_back, bytes_back, words_back, bytes-only}
 
@@ -54,23 +54,23 @@ out-form bs u = rw (bytes_back bs u)
 
 -- `C` and a word, `W` and a word
 pub command-form : (w : ℕ) → w < 65536 → line_of (67 ∷ 32 ∷ word_digits w) ≡ asking (command w) [] []
-unfolding line_of short_asked one_word word_asked
-command-form w h = rw (word_back w h, lt-ltb w 65536 h)
+unfolding line_of short_asked one_word
+command-form w h = rw (word_back w h)
 
 pub data_form : (w : ℕ) → w < 65536 → line_of (87 ∷ 32 ∷ word_digits w) ≡ asking (data_in w) [] []
-unfolding line_of short_asked one_word word_asked
-data_form w h = rw (word_back w h, lt-ltb w 65536 h)
+unfolding line_of short_asked one_word
+data_form w h = rw (word_back w h)
 
 -- `A`, a byte and words
 pub samples_form : (n : ℕ) (ws : List ℕ) → n < 256 → Under 65536 ws
     → line_of (65 ∷ 32 ∷ (byte_digits n ++ spell_words ws)) ≡ asking (samples n ws) [] ws
 unfolding line_of samples_in one_byte
-samples_form n ws h u = rw (byte_back n h, lt-ltb n 256 h, words_back ws u)
+samples_form n ws h u = rw (byte_back n h, words_back ws u)
 
 -- `I` and a byte
 pub byte_form : (b : ℕ) → b < 256 → line_of (73 ∷ 32 ∷ byte_digits b) ≡ asking (ask_byte b) [] []
-unfolding line_of short_asked one_byte byte_asked
-byte_form b h = rw (byte_back b h, lt-ltb b 256 h)
+unfolding line_of short_asked one_byte
+byte_form b h = rw (byte_back b h)
 
 -- `D`, `K`, `R`, `S`, `T`, `Z`
 pub deadline_form : line_of (68 ∷ []) ≡ asking deadline [] []

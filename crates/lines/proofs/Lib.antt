@@ -1,7 +1,7 @@
 pub mod Before
+pub mod Unread
 pub mod Held
-pub mod Cases
+pub mod Stored
 pub mod Forms
 pub mod OneLine
-pub mod Stored
 pub mod Turning

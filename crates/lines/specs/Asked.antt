@@ -1,13 +1,11 @@
 -- What a line of the console asks.
 -- Assumes nothing.
-use Rattle.std.specs.Prelude.{Bool, ◌&&◌, ◌||◌, cond, List, [], ℕ, ltb, eqb, length, take, drop, get_or}
+use Rattle.std.specs.Prelude.{Bool, ◌&&◌, ◌||◌, cond, List, [], ℕ, eqb, length, take, drop, get_or, Option, Some, None}
 use Rattle.blocks.specs.declared.Store.{Store}
 use Rattle.blocks.specs.declared.Store.TheVariants.{Priority, Ordinary}
-use Rattle.items.specs.declared.Items.{Items}
-use Rattle.items.specs.declared.Items.TheVariants.{Good, Bad}
 use Rattle.lines.specs.Letters.{letter_p, letter_d, letter_b, letter_c, letter_w, letter_r, letter_s, letter_a, letter_i, letter_t, letter_o, letter_k, letter_z, small_p, small_o}
 use Rattle.lines.specs.declared.Line.{Line}
-use Rattle.lines.specs.declared.Line.TheVariants.{Packet, Deadline, Put, Command, Data, Read, Status, Samples, Byte, Timeout, Out, Taken, Power, Other}
+use Rattle.lines.specs.declared.Line.TheVariants.{Packet, Deadline, Put, Command, Data, Read, Status, Samples, Byte, Timeout, Out, Taken, Power}
 use Rattle.items.specs.Characters.{space}
 use Rattle.items.specs.Text.{ItemsRead, bytes_in, words_in, byte_item, word_item}
 
@@ -42,25 +40,25 @@ abbrev pub unasked : Asking
 unasked = asking other [] []
 
 -- a run of items that has to be whole
-abbrev pub wholly : ItemsRead → (List ℕ → Asked) → Asked
+abbrev pub wholly : ItemsRead ℕ → (List ℕ → Asked) → Asked
 wholly r f = cond r.whole (f r.values) other
 
--- exactly one byte, 256 where it is not; exactly one word, 65536 where it is not
-unfoldable pub one_byte : List ℕ → ℕ
-one_byte t = cond (eqb (length t) 3) (byte_item (get_or t 0 0) (get_or t 1 0) (get_or t 2 0)) 256
+-- exactly one byte; exactly one word
+unfoldable pub one_byte : List ℕ → Option ℕ
+one_byte t = cond (eqb (length t) 3) (byte_item (get_or t 0 0) (get_or t 1 0) (get_or t 2 0)) None
 
-unfoldable pub one_word : List ℕ → ℕ
-one_word t = cond (eqb (length t) 5) (word_item (get_or t 0 0) (get_or t 1 0) (get_or t 2 0) (get_or t 3 0) (get_or t 4 0)) 65536
+unfoldable pub one_word : List ℕ → Option ℕ
+one_word t = cond (eqb (length t) 5) (word_item (get_or t 0 0) (get_or t 1 0) (get_or t 2 0) (get_or t 3 0) (get_or t 4 0)) None
 
 -- `P` bytes. A line of any other letter is none
-abbrev pub packing : ItemsRead → Asking
+abbrev pub packing : ItemsRead ℕ → Asking
 packing r = asking (wholly r packet) r.values []
 
 unfoldable pub packet_in : List ℕ → Asking
 packet_in t = cond (eqb (get_or t 0 0) letter_p) (packing (bytes_in (drop 1 t))) unasked
 
 -- `O` bytes
-abbrev pub offering : ItemsRead → Asking
+abbrev pub offering : ItemsRead ℕ → Asking
 offering r = asking (wholly r ask_out) r.values []
 
 unfoldable pub out_in : List ℕ → Asking
@@ -70,7 +68,7 @@ out_in t = offering (bytes_in (drop 1 t))
 abbrev pub is_put : ℕ → List ℕ → Bool
 is_put c t = eqb (get_or t 1 0) space && eqb (get_or t 2 0) c
 
-abbrev pub putting : Store → ItemsRead → Asking
+abbrev pub putting : Store → ItemsRead ℕ → Asking
 putting s r = asking (wholly r (put s)) r.values []
 
 unfoldable pub put_in : List ℕ → Asking
@@ -80,13 +78,12 @@ put_in t =
     unasked)
 
 -- `A` byte words
-abbrev pub sampling : ℕ → ItemsRead → Asking
-sampling check r = asking (wholly r (samples check)) [] r.values
+abbrev pub sampling : Option ℕ → ItemsRead ℕ → Asking
+sampling None r = unasked
+sampling (Some check) r = asking (wholly r (samples check)) [] r.values
 
 unfoldable pub samples_in : List ℕ → Asking
-samples_in t =
-    cond (ltb (one_byte (take 3 (drop 1 t))) 256) (sampling (one_byte (take 3 (drop 1 t))) (words_in (drop 4 t)))
-    unasked
+samples_in t = sampling (one_byte (take 3 (drop 1 t))) (words_in (drop 4 t))
 
 -- the letters with nothing behind them: `D`, `K`, `R`, `S`, `T`, `Z`
 unfoldable pub bare_asked : ℕ → Asked
@@ -100,12 +97,14 @@ bare_asked c =
     other)))))
 
 -- `C` word, `W` word
-unfoldable pub word_asked : ℕ → ℕ → Asked
-word_asked c w = cond (ltb w 65536) (cond (eqb c letter_c) (command w) (data_in w)) other
+abbrev pub word_asked : ℕ → Option ℕ → Asked
+word_asked c None = other
+word_asked c (Some w) = cond (eqb c letter_c) (command w) (data_in w)
 
 -- `I` byte
-unfoldable pub byte_asked : ℕ → Asked
-byte_asked b = cond (ltb b 256) (ask_byte b) other
+abbrev pub byte_asked : Option ℕ → Asked
+byte_asked None = other
+byte_asked (Some b) = ask_byte b
 
 -- the letters with one item behind them, and the bare letters
 unfoldable pub short_asked : ℕ → List ℕ → Asked
@@ -123,24 +122,19 @@ line_of t =
     (cond (eqb (get_or t 0 0) letter_a) (samples_in t)
     (asking (short_asked (get_or t 0 0) (drop 1 t)) [] []))))
 
--- how the code says it: a run of bytes or words by its count, since the values lie in lent memory
-unfoldable pub say_line : Asked → Line
-say_line (packet bs) = Packet (length bs)
-say_line deadline = Deadline
-say_line (put s bs) = Put s (length bs)
-say_line (command w) = Command w
-say_line (data_in w) = Data w
-say_line data_out = Read
-say_line status = Status
-say_line (samples k ws) = Samples k (length ws)
-say_line (ask_byte b) = Byte b
-say_line ask_timeout = Timeout
-say_line (ask_out bs) = Out (length bs)
-say_line ask_taken = Taken
-say_line power = Power
-say_line other = Other
-
--- a run of items that was read: the line with its count, or another line
-unfoldable pub counted : Items → (ℕ → Line) → Line
-counted (Good n) f = f n
-counted Bad f = Other
+-- how the code says it: a run of bytes or words by its count, since the values lie in lent memory; another line is none
+unfoldable pub say_line : Asked → Option Line
+say_line (packet bs) = Some (Packet (length bs))
+say_line deadline = Some Deadline
+say_line (put s bs) = Some (Put s (length bs))
+say_line (command w) = Some (Command w)
+say_line (data_in w) = Some (Data w)
+say_line data_out = Some Read
+say_line status = Some Status
+say_line (samples k ws) = Some (Samples k (length ws))
+say_line (ask_byte b) = Some (Byte b)
+say_line ask_timeout = Some Timeout
+say_line (ask_out bs) = Some (Out (length bs))
+say_line ask_taken = Some Taken
+say_line power = Some Power
+say_line other = None

@@ -1,12 +1,12 @@
 -- Lines cut from what is read in pieces.
 -- Assumes nothing.
-use Rattle.std.specs.Prelude.{◌&&◌, cond, List, [], ◌∷◌, ℕ, suc, ◌+◌, ◌-◌, ◌≤◌, ltb, leb, eqb, length, take, drop}
+use Rattle.std.specs.Prelude.{◌&&◌, cond, List, [], ◌∷◌, ℕ, suc, ◌+◌, ◌-◌, ◌≤◌, ltb, leb, eqb, length, take, drop, Option, Some, None}
 use Rattle.std.proofs.lemmas.List.Edits.{sets}
 use Rattle.items.specs.Characters.{newline}
 use Rattle.lines.specs.declared.Cursor.{Cursor}
 use Rattle.lines.specs.declared.Cut.{Cut}
 use Rattle.lines.specs.declared.Found.{Found}
-use Rattle.lines.specs.declared.Found.TheVariants.{Here, Held, Long, More}
+use Rattle.lines.specs.declared.Found.TheVariants.{Here, Held, Long}
 
 -- how many characters stand before the first newline; all of them where there is none
 unfoldable pub before : List ℕ → ℕ
@@ -38,15 +38,15 @@ end_of piece c = c.from + before (drop c.from piece)
 abbrev pub part_of : List ℕ → Cursor → List ℕ
 part_of piece c = take (end_of piece c - c.from) (drop c.from piece)
 
-abbrev pub cut_at : Found → ℕ → ℕ → Cut
+abbrev pub cut_at : Option Found → ℕ → ℕ → Cut
 cut_at f from held = record { found = f; cursor = record { from = from; held = held } }
 
 -- a line whole in the piece is a part of it; a line whose end is not there is held; and so is one whose start was held, to its end
 unfoldable pub cut_of : List ℕ → Cursor → Cut
 cut_of piece c =
-    cond (ltb (end_of piece c) (length piece) && eqb c.held 0) (cut_at (Here c.from (end_of piece c)) (end_of piece c + 1) 0)
-    (cond (eqb (end_of piece c) (length piece)) (cut_at More (end_of piece c) (held_of c.held (length (part_of piece c))))
-    (cut_at (last_of (held_of c.held (length (part_of piece c)))) (end_of piece c + 1) 0))
+    cond (ltb (end_of piece c) (length piece) && eqb c.held 0) (cut_at (Some (Here c.from (end_of piece c))) (end_of piece c + 1) 0)
+    (cond (eqb (end_of piece c) (length piece)) (cut_at None (end_of piece c) (held_of c.held (length (part_of piece c))))
+    (cut_at (Some (last_of (held_of c.held (length (part_of piece c))))) (end_of piece c + 1) 0))
 
 -- the memory of what is held: a line whole in the piece leaves it
 unfoldable pub held_line : List ℕ → Cursor → List ℕ → List ℕ
@@ -58,11 +58,9 @@ abbrev pub FoundIn : Found → ℕ → Type 0
 FoundIn (Here a b) n = (a ≤ b) × (b ≤ n)
 FoundIn (Held k) n = k ≤ longest
 FoundIn Long n = Unit {0}
-FoundIn More n = Unit {0}
 
 -- the text of a line that was found: a part of the piece, or what is held. A line that is too long is read as an empty one
 unfoldable pub text_of : Found → List ℕ → List ℕ → List ℕ
 text_of (Here from end) piece line = take (end - from) (drop from piece)
 text_of (Held n) piece line = take n line
 text_of Long piece line = []
-text_of More piece line = []

@@ -1,4 +1,4 @@
--- Numbers as bytes, high byte first: for any count of bytes, and as the code reads and stores two and four.
+-- Numbers as bytes, high byte first: for any count of bytes, and of two and four as the library has them.
 use Prim.Native.Nat.{ℕ, zero, suc, ◌+◌, ◌*◌, ◌/◌, ◌%◌, ◌^◌, ◌<◌, ◌≤◌}
 use native.Mathlib.Omega.{arith}
 use native.Mathlib.Nat.{pow-succ', mod-eq_of_lt, one-le-pow}
@@ -6,8 +6,9 @@ use native.Mathlib.Numerals.{add-one}
 use mathlib.Core.Path.{◌≡◌, refl, sym, ap, ◌∙◌}
 use mathlib.Core.List.{List}
 use lib.Arith.{mod-mul}
-use lib.ListN.{length, get_or, set}
-use lib.Seq.{sets, drop-cons}
+use lib.ListN.{length, get_or}
+use lib.Seq.{drop-cons}
+use Rattle.std.specs.Int.{w16, w32, to_be_bytes}
 use Rattle.numbers.specs.Numbers.{high_first, number_of, number_at}
 
 -- n bytes are as many as they should be
@@ -39,24 +40,23 @@ unfolding number_of number_at
 two_number s at h =
     rw (add-one, drop-cons s at 0 (omega arith), drop-cons s (suc at) 0 (omega arith)) (omega arith)
 
--- four bytes, two and two
-pub four_number : (s : List ℕ) (at : ℕ) → at + 4 ≤ length s → number_at s at 4 ≡ number_at s at 2 * 0x1_0000 + number_at s (at + 2) 2
+-- four bytes, each at its weight
+pub four_number : (s : List ℕ) (at : ℕ) → at + 4 ≤ length s
+    → number_at s at 4 ≡ get_or s at 0 * 0x100_0000 + get_or s (at + 1) 0 * 0x1_0000 + get_or s (at + 2) 0 * 256 + get_or s (at + 3) 0
 unfolding number_of number_at
 four_number s at h =
     let third : at + 2 ≡ suc (suc at) = omega arith in
-    rw (third, drop-cons s at 0 (omega arith), drop-cons s (suc at) 0 (omega arith), drop-cons s (suc (suc at)) 0 (omega arith), drop-cons s (suc (suc (suc at))) 0 (omega arith))
+    let fourth : at + 3 ≡ suc (suc (suc at)) = omega arith in
+    rw (add-one, third, fourth, drop-cons s at 0 (omega arith), drop-cons s (suc at) 0 (omega arith), drop-cons s (suc (suc at)) 0 (omega arith), drop-cons s (suc (suc (suc at))) 0 (omega arith))
     (omega arith)
 
--- stores one after the other
-pub two_stored : (s : List ℕ) (at x : ℕ) → set (set s at (x / 256 % 256)) (at + 1) (x % 256) ≡ sets s at (high_first 2 x)
+-- the bytes of a number as the library has them
+pub two_bytes : (x : ℕ) → to_be_bytes w16 x ≡ high_first 2 x
 unfolding high_first
-two_stored s at x = let low : x / 1 % 256 ≡ x % 256 = omega arith in rw (low, add-one)
+two_bytes x = let low : x / 1 % 256 ≡ x % 256 = omega arith in rw low
 
-pub four_stored : (s : List ℕ) (at x : ℕ)
-    → set (set (set (set s at (x / 0x100_0000 % 256)) (at + 1) (x / 0x1_0000 % 256)) (at + 2) (x / 256 % 256)) (at + 3) (x % 256) ≡ sets s at (high_first 4 x)
+pub four_bytes : (x : ℕ) → to_be_bytes w32 x ≡ high_first 4 x
 unfolding high_first
-four_stored s at x =
-    let low : x / 1 % 256 ≡ x % 256 = omega arith in
-    let third : at + 2 ≡ suc (suc at) = omega arith in
-    let fourth : at + 3 ≡ suc (suc (suc at)) = omega arith in
-    rw (low, add-one, third, fourth)
+four_bytes x = let low : x / 1 % 256 ≡ x % 256 = omega arith in rw low
+
+pub ruleset library_bytes = (two_bytes, four_bytes)

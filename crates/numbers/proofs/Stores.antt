@@ -5,11 +5,11 @@ use native.Mathlib.Numerals.{add-one}
 use native.Mathlib.Nat.{zero-add}
 use mathlib.Core.Path.{◌≡◌, refl, sym, ap, ◌∙◌}
 use mathlib.Core.List.{List, [], ◌∷◌, ◌++◌, append_assoc, append-nil}
-use lib.ListN.{length, get_or, take, drop, set, length-take, length-drop, drop_of_length-le, get_or-append}
-use lib.Seq.{take-suc, sets, sets-eq, length-take-le, get_or-append-add, take_at, take_all, take-length, drop-drop, get_or-set_other}
+use lib.ListN.{length, get_or, take, drop, set, length-drop, drop_of_length-le, get_or-append}
+use lib.Seq.{take-suc, sets, sets-eq, length-take-le, get_or-append-add, take_at, take_all, drop-drop, get_or-set_other}
 
 -- a run of stores in two parts
-pub sets_append : (l : List ℕ) (i : ℕ) (xs ys : List ℕ) → sets l i (xs ++ ys) ≡ sets (sets l i xs) (i + length xs) ys
+pub sets_append : {A : Type 0} (l : List A) (i : ℕ) (xs ys : List A) → sets l i (xs ++ ys) ≡ sets (sets l i xs) (i + length xs) ys
 sets_append l i [] ys = ap (λ (k : ℕ). sets l k ys) (omega arith)
 sets_append l i (x ∷ xs) ys =
     sets_append (set l i x) (suc i) xs ys ∙ ap (λ (k : ℕ). sets (sets (set l i x) (suc i) xs) k ys) (omega arith)
@@ -43,18 +43,9 @@ lent l ys vs n k h e y =
     rw (y, take_all k (drop n l) end, drop_of_length-le (drop n l) {i = k} end, append-nil, sets-eq vs (drop n l) 0 room, zero-add, drop-drop)
     (sym (sets-eq vs l n h ∙ append_assoc (take n l) vs (drop (n + length vs) l)))
 
--- so written by the kit's copy
-pub copied : (to run ys : List ℕ) (at k : ℕ) → at + length run ≤ length to → k ≡ length to - at
-    → ys ≡ take (length run) run ++ drop (length run) (take k (drop at to))
-    → take at to ++ (ys ++ drop k (drop at to)) ≡ sets to at run
-copied to run ys at k h e y =
-    let part : List ℕ = take k (drop at to) in
-    let room : 0 + length run ≤ length part = simp (length-take, length-drop) (omega arith) in
-    lent to ys run at k h e (y ∙ rw (sets-eq run part 0 room, zero-add, take-length))
-
 -- one element more of a run that is stored
-pub stored_more : (to run : List ℕ) (at i : ℕ) → i < length run
-    → set (sets to at (take i run)) (at + i) (get_or run i 0) ≡ sets to at (take (i + 1) run)
-stored_more to run at i h =
+pub stored_more : {A : Type 0} (to run : List A) (at i : ℕ) (x : A) → i < length run → x ≡ get_or run i x
+    → set (sets to at (take i run)) (at + i) x ≡ sets to at (take (i + 1) run)
+stored_more to run at i x h e =
     let long : length (take i run) ≡ i = length-take-le i run (omega arith) in
-    rw (add-one, take-suc run i 0 h) (sym (sets_append to at (take i run) (get_or run i 0 ∷ []) ∙ ap (λ (k : ℕ). set (sets to at (take i run)) (at + k) (get_or run i 0)) long))
+    rw (add-one, take-suc run i x h, ← e) (sym (sets_append to at (take i run) (x ∷ []) ∙ ap (λ (k : ℕ). set (sets to at (take i run)) (at + k) x) long))

@@ -5,7 +5,7 @@ mod asked;
 
 pub use asked::{allowed, heard};
 
-#[derive(Clone, Copy)]
+#[derive(Clone, Copy, Debug, PartialEq, Eq)]
 pub enum Table {
     Five,
     Six,
@@ -21,10 +21,9 @@ pub struct Parts {
     pub n: u16,
 }
 
-// What a command word asks for. `Other` is any that is not accepted.
-#[derive(Clone, Copy)]
+// What a command word that is accepted asks for.
+#[derive(Clone, Copy, Debug, PartialEq, Eq)]
 pub enum Order {
-    Other,
     Stop,
     Restart,
     Next,

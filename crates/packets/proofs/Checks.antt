@@ -1,16 +1,30 @@
 -- The checks of a packet, each from the facts that lead to it.
 use Prim.Native.Nat.{ℕ, ◌<◌, ◌≤◌}
 use native.Mathlib.Omega.{arith}
-use mathlib.Core.Path.{◌≡◌}
+use mathlib.Core.Path.{◌≡◌, refl}
 use mathlib.Core.List.{List}
 use mathlib.Core.Bool.{true, false, or-true}
 use borrow.Author.Tests.{lt-ltb, le-ltb, eq-eqb, ne_eqb}
 use lib.Dec.{eqb}
 use lib.ListN.{length}
 use Rattle.packets.specs.declared.Parsed.TheVariants.{Nothing, Error, Acknowledgement, Asked}
-use Rattle.packets.specs.Commands.{code_row, is_code}
+use Rattle.packets.specs.declared.codes.Code.{Code}
+use Rattle.packets.specs.declared.codes.Code.TheVariants.{Initialise, Status, Update, Write, Read, Priority, Data, Shutdown}
+use Rattle.packets.specs.Commands.{code_row, is_code, listed_in}
+use Rattle.packets.specs.Codes.{code_number}
 use Rattle.packets.specs.Reading.{first, second, crc_right, acknowledges, packet_read}
-use Rattle.packets.proofs.Rows.{code_is}
+
+-- a code's byte is in the table
+pub coded : (c : Code) → is_code (code_number c) ≡ true
+unfolding code_number is_code listed_in
+coded Initialise = refl
+coded Status = refl
+coded Update = refl
+coded Write = refl
+coded Read = refl
+coded Priority = refl
+coded Data = refl
+coded Shutdown = refl
 
 module _ (p : List ℕ) where
   -- check 1
@@ -35,10 +49,9 @@ module _ (p : List ℕ) where
     acknowledged h = simp (ne_eqb (length p) 0 (λ e. omega arith), le-ltb (length p) 4 four, right, h)
 
     -- check 4
-    pub unknown : acknowledges p ≡ false → (code_row (first p)).bytes ≡ 0 → packet_read p ≡ Error (first p) 0x02
+    pub unknown : acknowledges p ≡ false → is_code (first p) ≡ false → packet_read p ≡ Error (first p) 0x02
     unfolding packet_read
-    unknown h e =
-        simp (ne_eqb (length p) 0 (λ e. omega arith), le-ltb (length p) 4 four, right, h, code_is, eq-eqb (code_row (first p)).bytes 0 e)
+    unknown h k = simp (ne_eqb (length p) 0 (λ e. omega arith), le-ltb (length p) 4 four, right, h, k)
 
     -- check 5
     pub second_wrong : acknowledges p ≡ false → is_code (first p) ≡ true → (second p ≡ 0x01 → ⊥) → packet_read p ≡ Error (first p) 0x3C
@@ -59,3 +72,5 @@ module _ (p : List ℕ) where
     unfolding packet_read
     asked h k e l =
         simp (ne_eqb (length p) 0 (λ e. omega arith), le-ltb (length p) 4 four, right, h, k, eq-eqb (second p) 0x01 e, eq-eqb (length p) (code_row (first p)).bytes l)
+
+pub ruleset checks = (coded, empty, short, damaged, acknowledged, unknown, second_wrong, length_wrong, asked)

@@ -1,3 +1,4 @@
 pub mod Commands
+pub mod Codes
 pub mod Reading
 pub mod Answers

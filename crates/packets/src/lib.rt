@@ -2,9 +2,11 @@
 // state is here.
 #![tactic(auto)]
 
+mod codes;
 mod reading;
 mod writing;
 
+pub use codes::{Code, UnknownCode};
 pub use reading::{bounded, crc_right, read};
 pub use writing::{write_command, write_data, write_done, write_error, write_status, write_value};
 
@@ -42,7 +44,8 @@ pub enum Command {
 }
 
 // What a packet is read as. An error has the packet's first byte and its number, an acknowledgement the first byte and whether
-// it is the 0x01 form.
+// it is the 0x01 form. Its number is no enum: `packet_read`, and the theorems over it, say the byte that the answer carries, and of an
+// acknowledgement that byte and that Bool.
 #[derive(Clone, Copy)]
 pub enum Parsed {
     Nothing,

@@ -1,9 +1,10 @@
 // A packet is read: checks 1 to 6.
-ghost use Rattle.std.specs.Prelude.{◌≡◌, true, ◌≤◌, length};
-ghost use Rattle.packets.specs.Commands.{fields_in, fields_bounded, code_row, is_code, parsed_said};
+ghost use Rattle.std.specs.Prelude.{◌≡◌, ◌≤◌, length};
+ghost use Rattle.packets.specs.Commands.{fields_in, fields_bounded, code_row, parsed_said};
+ghost use Rattle.packets.specs.Codes.{code_number};
 ghost use Rattle.packets.specs.Reading.{crc_right, acknowledges, packet_read};
 
-use crate::{Command, Fields, Parsed};
+use crate::{Code, Command, Fields, Parsed};
 use numbers::{four_at, signed, two_at};
 
 // The errors of checks 2, 4, 5 and 6.
@@ -18,6 +19,7 @@ const WRONG_SECOND: u8 = 0x3C;
 const WRONG_LENGTH: u8 = 0x01;
 
 // Whether fields are within their bounds.
+#[tactic(auto, unfolding(crate::specs::Commands::fields_bounded))]
 pub fn bounded(f: Fields) -> bool
     ensures { result ≡ fields_bounded f }
 {
@@ -30,6 +32,7 @@ pub fn bounded(f: Fields) -> bool
 }
 
 // The fields of an Initialise or an Update.
+#[tactic(auto, using(numbers::proofs::Digits::one_number), unfolding(crate::specs::Commands::fields_in, crate::specs::Commands::fields_of, numbers::specs::Layout::numbers_at))]
 fn fields_in(packet: &[u8]) -> Fields
     requires { 23 ≤ length packet.now }
     ensures { result ≡ fields_in packet.now }
@@ -48,42 +51,26 @@ fn fields_in(packet: &[u8]) -> Fields
     }
 }
 
-// The bytes of a code's packet, 0 where the byte is no code.
-fn length_of(code: u8) -> usize
-    ensures { result ≡ (code_row code).bytes }
+// The command in a packet that has the length of its code.
+#[tactic(auto, unfolding(crate::specs::Codes::code_number, crate::specs::Commands::code_row, crate::specs::Commands::find_in))]
+fn command_in(code: Code, packet: &[u8]) -> Command
+    requires { length packet.now ≡ (code_row (code_number code)).bytes }
+    ensures { result ≡ (code_row (code_number code)).command packet.now }
 {
     match code {
-        0x90 => 25,
-        0x91 => 4,
-        0x92 => 25,
-        0x93 => 9,
-        0x94 => 5,
-        0x95 => 4,
-        0x96 => 4,
-        0x9F => 4,
-        _ => 0,
-    }
-}
-
-// The command in a packet whose code is known and whose length is right.
-fn command_in(code: u8, packet: &[u8]) -> Command
-    requires code_value { is_code code ≡ true }
-    requires packet_len { length packet.now ≡ (code_row code).bytes }
-    ensures { result ≡ (code_row code).command packet.now }
-{
-    match code {
-        0x90 => Command::Initialise(fields_in(packet)),
-        0x91 => Command::Status,
-        0x92 => Command::Update(fields_in(packet)),
-        0x93 => Command::Write(packet[2], signed(four_at(packet, 3))),
-        0x94 => Command::Read(packet[2]),
-        0x95 => Command::Priority,
-        0x96 => Command::Data,
-        _ => Command::Shutdown,
+        Code::Initialise => Command::Initialise(fields_in(packet)),
+        Code::Status => Command::Status,
+        Code::Update => Command::Update(fields_in(packet)),
+        Code::Write => Command::Write(packet[2], signed(four_at(packet, 3))),
+        Code::Read => Command::Read(packet[2]),
+        Code::Priority => Command::Priority,
+        Code::Data => Command::Data,
+        Code::Shutdown => Command::Shutdown,
     }
 }
 
 // Whether the last two bytes are the CRC of those before them.
+#[tactic(auto, unfolding(crate::specs::Reading::crc_right))]
 pub fn crc_right(packet: &[u8]) -> bool
     requires { 2 ≤ length packet.now }
     ensures { result ≡ crc_right packet.now }
@@ -92,16 +79,15 @@ pub fn crc_right(packet: &[u8]) -> bool
     crc::crc_of(&packet[..end]) == two_at(packet, end)
 }
 
-// Whether a packet has the acknowledgement form.
+// Whether a packet has the acknowledgement form. Its first byte is in document 01's range, 0x90 to 0x9F (`acknowledges`), where some bytes
+// are no `Code`.
+#[tactic(auto, unfolding(crate::specs::Reading::acknowledges))]
 fn is_acknowledgement(packet: &[u8]) -> bool
     ensures { result ≡ acknowledges packet.now }
 {
-    if packet.len() != 5 {
+    let &[first, second, third, _, _] = packet else {
         return false;
-    }
-    let first = packet[0];
-    let second = packet[1];
-    let third = packet[2];
+    };
     crc_right(packet)
         & (0x90 <= first)
         & (first <= 0x9F)
@@ -109,13 +95,13 @@ fn is_acknowledgement(packet: &[u8]) -> bool
 }
 
 // What a packet is: checks 1 to 6, each with its own way out.
+#[tactic(auto, using(crate::proofs::Checks::checks))]
 pub fn read(packet: &[u8]) -> Parsed
     ensures { parsed_said result ≡ parsed_said (packet_read packet.now) }
 {
-    if packet.len() == 0 {
+    let Some(&first) = packet.first() else {
         return Parsed::Nothing;
-    }
-    let first = packet[0];
+    };
     if packet.len() < 4 {
         return Parsed::Error(first, TOO_SHORT);
     }
@@ -126,15 +112,14 @@ pub fn read(packet: &[u8]) -> Parsed
     if is_acknowledgement(packet) {
         return Parsed::Acknowledgement(first, second == 0x01);
     }
-    let length = length_of(first);
-    if length == 0 {
+    let Ok(code) = Code::try_from(first) else {
         return Parsed::Error(first, UNKNOWN);
-    }
+    };
     if second != 0x01 {
         return Parsed::Error(first, WRONG_SECOND);
     }
-    if packet.len() != length {
+    if packet.len() != code.length() {
         return Parsed::Error(first, WRONG_LENGTH);
     }
-    Parsed::Asked(command_in(first, packet))
+    Parsed::Asked(command_in(code, packet))
 }

@@ -1,5 +1,8 @@
 -- Parameters within their bounds: at the starts, and after a write; and what the bounds say of the kept list.
 -- Assumes nothing.
+use Prim.{tt}
+use Rattle.std.specs.Prelude.{Option, IfSome}
+use Rattle.rows.proofs.Bool.{by-test}
 use Prim.Native.Nat.{ℕ, zero, suc, ◌-◌}
 use mathlib.Core.Path.{◌≡◌, refl, sym, ap, ◌∙◌}
 use mathlib.Core.Bool.{true, ◌&&◌, false≢true}
@@ -14,8 +17,8 @@ use Rattle.rows.proofs.Same.{same_once, same_self}
 use Rattle.params.specs.declared.ParamRow.{ParamRow}
 use Rattle.params.specs.declared.Params.{Params}
 use Rattle.params.specs.Rows.{param_rows, no_param_row, param_row}
-use Rattle.params.specs.Rules.{in_row, in_span, in_rows, filter, missing_ids, missing_of, list_kept, sound_params, start_params, stored, struck, write_of}
-use Rattle.params.proofs.Laws.{id_taken, taken_id, by_write}
+use Rattle.params.specs.Rules.{in_row, in_span, in_rows, filter, missing_ids, missing_of, list_kept, sound_params, start_params, stored, struck, write_allowed, write_of}
+use Rattle.params.proofs.Laws.{id_taken, taken_id}
 use Rattle.params.proofs.Missing.{missing_long, struck-out}
 
 -- ---- the three bounds
@@ -65,23 +68,26 @@ rows_kept (r ∷ rs) (x ∷ vs) zero v f h = and_both f (and_right (in_row r x) 
 rows_kept (r ∷ rs) (x ∷ vs) (suc k) v f h =
     and_both (and_left (in_row r x) (in_rows rs vs) h) (rows_kept rs vs k v f (and_right (in_row r x) (in_rows rs vs) h))
 
-module _ (p : Params) (id : ℕ) (v : ℤ) (h : sound_params p ≡ true) where
+module _ (p : Params) (id : ℕ) (v : ℤ) (h : sound_params p ≡ true) (e : write_allowed p id v ≡ true) where
   -- the id struck out, the list is the one that the marks decide
-  list_kept_lem : (write_of p id v).taken ≡ true → list_kept (stored p id v) ≡ true
+  list_kept_lem : list_kept (stored p id v) ≡ true
   unfolding list_kept
-  list_kept_lem e =
+  list_kept_lem =
       let twelve = twelve_marks p h in
       let out = ap (struck id) (kept_list p h) ∙ struck-out p id v (taken_id p id v e) twelve in
       and_both (eq-eqb (length (stored p id v).written) 12 (length-set p.written (id - 1) true ∙ twelve))
       (ap (same_list (stored p id v).missing) (sym out) ∙ same_self (stored p id v).missing)
 
-  -- a write keeps sound parameters sound
-  pub write_sound : sound_params (write_of p id v).params ≡ true
+  -- a taken write keeps sound parameters sound
+  pub stored_sound : sound_params (stored p id v) ≡ true
   unfolding sound_params
-  write_sound =
-      by_write p id v (λ q. sound_params q ≡ true)
-      (λ e.
+  stored_sound =
       let judged : (in_row (param_row id) v && in_span (stored p id v)) ≡ true = sym (id_taken p id v (taken_id p id v e)) ∙ e in
       and_both (rows_kept param_rows p.values (id - 1) v (and_left (in_row (param_row id) v) _ judged) (in_rows_lem p h))
-      (and_both (and_right (in_row (param_row id) v) _ judged) (list_kept_lem e)))
-      h
+      (and_both (and_right (in_row (param_row id) v) _ judged) list_kept_lem)
+
+-- whatever is written, sound parameters stay sound: those that a write gives, and where it gives none, those that are there
+pub write_sound : (p : Params) (id : ℕ) (v : ℤ) → sound_params p ≡ true → IfSome (write_of p id v) (λ q. sound_params q ≡ true)
+unfolding write_of
+write_sound p id v h =
+    by-test (λ (o : Option Params). IfSome o (λ q. sound_params q ≡ true)) (write_allowed p id v) (λ e. stored_sound p id v h e) (λ e. tt)

@@ -2,21 +2,20 @@
 use mathlib.Core.Path.{◌≡◌, refl, ap, ◌∙◌}
 use mathlib.Core.Bool.{true, false, ◌&&◌, cond, and-eq-true_iff}
 use mathlib.Core.List.{List}
-use mathlib.Core.Logic.{inl, inr}
-use Prim.Native.Nat.{ℕ, ◌-◌, ◌≤◌, ◌<◌}
+use mathlib.Core.Logic.{inr}
+use Prim.Native.Nat.{ℕ, ◌-◌, ◌≤◌}
 use native.Mathlib.Omega.{arith}
-use borrow.Author.Tests.{leb-true, le-leb, lt-leb, eqb-true, eqb-false}
+use borrow.Author.Tests.{leb-true, eqb-true, eqb-false}
 use lib.Dec.{leb, eqb}
 use lib.IntN.{ℤ}
 use lib.ListN.{length, get_or, set, replicate, get_or-map}
 use lib.Seq.{get_or-set_same, get_or-set_other}
 use Rattle.params.specs.declared.ParamRow.{ParamRow}
 use Rattle.params.specs.declared.Params.{Params}
-use Rattle.params.specs.declared.Reading.{Reading}
-use Rattle.params.specs.declared.Reading.TheVariants.{Held, Unknown}
-use Rattle.rows.proofs.Bool.{by-test, split}
+use Rattle.std.proofs.Common.{Option, Some, None}
+use Rattle.rows.proofs.Bool.{split}
 use Rattle.params.specs.Rows.{param_rows, no_param_row, param_row}
-use Rattle.params.specs.Rules.{is_id, value_at, in_row, in_span, start_params, stored, write_allowed, write_of, outside_error, value_read, reading_said}
+use Rattle.params.specs.Rules.{is_id, value_at, in_row, in_span, start_params, stored, write_allowed, write_of, value_read, reading_said}
 
 -- ---- ids
 
@@ -27,21 +26,6 @@ id_within id e =
     let both = (and-eq-true_iff (leb 1 id) (leb id 12)).0 e in
     (leb-true 1 id both.0, leb-true id 12 both.1)
 
--- 1 to 12 are ids
-pub within_id : (id : ℕ) → 1 ≤ id → id ≤ 12 → is_id id ≡ true
-unfolding is_id
-within_id id h k = simp (le-leb 1 id h, le-leb id 12 k)
-
--- 0 is no id
-pub under_no_id : (id : ℕ) → id < 1 → is_id id ≡ false
-unfolding is_id
-under_no_id id h = simp (lt-leb 1 id h)
-
--- no id is over 12
-pub over_no_id : (id : ℕ) → 12 < id → is_id id ≡ false
-unfolding is_id
-over_no_id id h = simp (le-leb 1 id (omega arith), lt-leb id 12 h)
-
 -- ---- what is read
 
 module _ (p : Params) (id : ℕ) where
@@ -50,17 +34,12 @@ module _ (p : Params) (id : ℕ) where
   unfolding value_read
   id_held e = rw e
 
-  -- what is no id reads as the error
-  pub no_id_unknown : is_id id ≡ false → value_read p id ≡ inl outside_error
-  unfolding value_read
-  no_id_unknown e = rw e
-
 -- two answers that say the same are the same: what is promised through `reading_said` is decided
-pub said_once : (a b : Reading) → reading_said a ≡ reading_said b → a ≡ b
-said_once Unknown Unknown e = refl
-said_once Unknown (Held v) e = cc
-said_once (Held v) Unknown e = cc
-said_once (Held v) (Held w) e = cc
+pub said_once : (a b : Option ℤ) → reading_said a ≡ reading_said b → a ≡ b
+said_once None None e = refl
+said_once None (Some v) e = cc
+said_once (Some v) None e = cc
+said_once (Some v) (Some w) e = cc
 
 -- ---- starts
 
@@ -78,33 +57,28 @@ start_marks = refl
 
 module _ (p : Params) (id : ℕ) (v : ℤ) where
   -- a write of an id is taken exactly when the value is in its row and parameter 1 stays below parameter 2
-  pub id_taken : is_id id ≡ true → (write_of p id v).taken ≡ in_row (param_row id) v && in_span (stored p id v)
-  unfolding write_of write_allowed
+  pub id_taken : is_id id ≡ true → write_allowed p id v ≡ in_row (param_row id) v && in_span (stored p id v)
+  unfolding write_allowed
   id_taken e = rw e
 
   -- what is no id is refused
-  pub no_id_refused : is_id id ≡ false → write_of p id v ≡ record { taken = false; params = p }
+  pub no_id_refused : is_id id ≡ false → write_of p id v ≡ None
   unfolding write_of write_allowed
   no_id_refused e = rw e
 
-  -- a taken write stores the value and sets the mark
-  pub taken-stored : (write_of p id v).taken ≡ true → write_of p id v ≡ record { taken = true; params = stored p id v }
+  -- a taken write stores the value, sets the mark and strikes the id out
+  pub taken-stored : write_allowed p id v ≡ true → write_of p id v ≡ Some (stored p id v)
   unfolding write_of
   taken-stored e = rw e
 
-  -- a refused write is the same state
-  pub refused_same : (write_of p id v).taken ≡ false → write_of p id v ≡ record { taken = false; params = p }
+  -- any other is refused
+  pub refused_none : write_allowed p id v ≡ false → write_of p id v ≡ None
   unfolding write_of
-  refused_same e = rw e
-
-  -- what holds of the state, and of the stored one where the write is taken, holds after the write
-  pub by_write : (P : Params → Type 0) → ((write_of p id v).taken ≡ true → P (stored p id v)) → P p → P (write_of p id v).params
-  unfolding write_of
-  by_write P f g = by-test P (write_allowed p id v) f (λ e. g)
+  refused_none e = rw e
 
   -- only ids are taken
-  pub taken_id : (write_of p id v).taken ≡ true → is_id id ≡ true
-  unfolding write_of write_allowed
+  pub taken_id : write_allowed p id v ≡ true → is_id id ≡ true
+  unfolding write_allowed
   taken_id e = ((and-eq-true_iff (is_id id) (in_row (param_row id) v && in_span (stored p id v))).0 e).0
 
 -- of as many as there are ids, stored at an id: what is found at an id

@@ -1,24 +1,27 @@
 -- The kept list: what it is by the marks, what a write makes of it, and how it is compared as one number.
 -- Assumes nothing.
-use Prim.{⊥}
-use Prim.Native.Nat.{ℕ, zero, suc, ◌+◌, ◌*◌, ◌<◌, ◌≤◌, ◌-◌}
+use Prim.Native.Nat.{ℕ, ◌+◌, ◌*◌, ◌^◌, ◌<◌, ◌≤◌, ◌-◌}
 use native.Mathlib.Omega.{arith}
 use native.Mathlib.Numerals.{add-one}
 use mathlib.Core.Path.{◌≡◌, refl, sym, ap, ◌∙◌}
-use mathlib.Core.Bool.{Bool, true, false, ◌&&◌, cond}
-use mathlib.Core.List.{List, [], ◌∷◌, ◌++◌}
-use borrow.Author.Tests.{eqb-true, eqb-false, eq-eqb, ne_eqb, ltb-true}
-use lib.Dec.{eqb, ltb}
+use mathlib.Core.Bool.{Bool, true, false, not, ◌&&◌, cond}
+use mathlib.Core.List.{List, [], ◌∷◌}
+use borrow.Author.Tests.{eqb-true, eq-eqb}
+use lib.Dec.{eqb}
 use lib.IntN.{ℤ}
 use lib.ListN.{length, drop, get_or, drop_of_length-le}
+use Rattle.std.proofs.Common.{w32, w64, get_or-drop}
+use Rattle.std.specs.Int.{from_le_bytes, to_le_bytes}
+use Rattle.std.proofs.lemmas.Nat.{from_le_bytes-to_le_bytes_8}
 use lib.Seq.{drop-cons}
-use Rattle.rows.proofs.Bool.{split, and_left, and_right, and_both, every-at}
+use Rattle.rows.proofs.Bool.{split, never, and_left, and_right, every-at}
 use Rattle.rows.specs.Same.{same_list}
-use Rattle.rows.proofs.Same.{same_once}
+use Rattle.rows.proofs.Same.{same_once, same_self}
 use Rattle.params.specs.declared.Params.{Params}
+use Rattle.params.specs.Rows.{param_ids, param_row, param_rows, no_param_row}
 use Rattle.params.specs.Rules.{marked, filter, missing_ids, missing_of, is_id, list_kept, struck, stored}
 use Rattle.params.proofs.Laws.{id_within, stored_at}
-use Rattle.params.specs.Packed.{low_first, bytes, places, index, asked_marks, list_by, list_for}
+use Rattle.params.specs.Packed.{index, asked_marks, list_by, list_for}
 
 -- ---- a filter, from a place on
 
@@ -37,6 +40,31 @@ module _ (test : ℕ → Bool) (l : List ℕ) (i : ℕ) where
   pub none_left : length l ≤ i → passing test l i ≡ []
   unfolding passing filter
   none_left h = rw (drop_of_length-le l h)
+
+-- another id
+abbrev pub other : ℕ → ℕ → Bool
+other id k = not (eqb k id)
+
+-- the ids that are asked, from place i on
+abbrev asked : ℕ → Bool
+asked id = (param_row id).asked
+
+abbrev pub asked_from : ℕ → List ℕ
+asked_from i = passing asked param_ids i
+
+module _ (i : ℕ) (h : i < 12) where
+  -- place i has the id i + 1, and its row
+  here : get_or param_ids i 0 ≡ i + 1
+  here = eqb-true (get_or param_ids i 0) (i + 1) (every-at (λ k. eqb (get_or param_ids k 0) (k + 1)) 12 i refl h)
+
+  row_of : (param_row (get_or param_ids i 0)).asked ≡ (get_or param_rows i no_param_row).asked
+  row_of = let place : i + 1 - 1 ≡ i = omega arith in rw (here, place)
+
+  pub asked_here : (get_or param_rows i no_param_row).asked ≡ true → asked_from i ≡ (i + 1) ∷ asked_from (i + 1)
+  asked_here e = passes asked param_ids i h (row_of ∙ e) ∙ ap (λ k. k ∷ asked_from (i + 1)) here
+
+  pub not_asked_here : (get_or param_rows i no_param_row).asked ≡ false → asked_from i ≡ asked_from (i + 1)
+  not_asked_here e = fails asked param_ids i h (row_of ∙ e)
 
 -- ---- a test of every mark
 
@@ -71,83 +99,41 @@ pub for_marks : (a b c d e : Bool) → list_for (index a b c d e) ≡ list_by a 
 unfolding same_list list_for list_by
 for_marks a b c d e = same_once _ _ (all-at (λ a b c d e. same_list (list_for (index a b c d e)) (list_by a b c d e)) refl a b c d e)
 
--- every place of it is a byte
-by_bytes : (a b c d e : Bool) → bytes (list_by a b c d e) ≡ true
-unfolding bytes list_by
-by_bytes = all-at (λ a b c d e. bytes (list_by a b c d e)) refl
-
--- and it has eight
+-- it has eight places
 pub by_long : (a b c d e : Bool) → length (list_by a b c d e) ≡ 8
 unfolding list_by
 by_long a b c d e = eqb-true (length (list_by a b c d e)) 8 (all-at (λ a b c d e. eqb (length (list_by a b c d e)) 8) refl a b c d e)
 
 -- ---- as one number
 
-spelt : (l : List ℕ) (i n : ℕ) → length l ≡ i + n → drop i l ≡ places l i n
-spelt l i zero e = let short : length l ≤ i = omega arith in drop_of_length-le l short
-spelt l i (suc n) e = rw (drop-cons l i 0 (omega arith), spelt l (suc i) n (omega arith))
+-- its eight places are the bytes of its number
+by_bytes : (a b c d e : Bool) → to_le_bytes w64 (from_le_bytes w64 (list_by a b c d e)) ≡ list_by a b c d e
+unfolding same_list list_by
+by_bytes a b c d e =
+    same_once _ _ (all-at (λ a b c d e. same_list (to_le_bytes w64 (from_le_bytes w64 (list_by a b c d e))) (list_by a b c d e)) refl a b c d e)
 
--- four bytes are under 2 to the 32nd
-four_under : (a b c d : ℕ) → bytes (a ∷ b ∷ c ∷ d ∷ []) ≡ true → low_first (a ∷ b ∷ c ∷ d ∷ []) < 0x1_0000_0000
-unfolding low_first bytes
-four_under a b c d h =
-    let one = ltb-true a 256 (and_left (ltb a 256) _ h) in
-    let more = and_right (ltb a 256) _ h in
-    let two = ltb-true b 256 (and_left (ltb b 256) _ more) in
-    let less = and_right (ltb b 256) _ more in
-    let three = ltb-true c 256 (and_left (ltb c 256) _ less) in
-    let last = ltb-true d 256 (and_left (ltb d 256) true (and_right (ltb c 256) _ less)) in
-    omega arith
+-- a number is that of such a list exactly where its own eight bytes are the list
+as_number : (n : ℕ) (m : List ℕ) → n < 2 ^ 64 → to_le_bytes w64 (from_le_bytes w64 m) ≡ m → eqb n (from_le_bytes w64 m) ≡ same_list (to_le_bytes w64 n) m
+as_number n m h k =
+    split (eqb n (from_le_bytes w64 m))
+    (λ s. s ∙ sym (ap (λ l. same_list l m) (ap (to_le_bytes w64) (eqb-true n (from_le_bytes w64 m) s) ∙ k) ∙ same_self m))
+    (λ s.
+    split (same_list (to_le_bytes w64 n) m)
+    (λ t. never (eq-eqb n (from_le_bytes w64 m) (sym (from_le_bytes-to_le_bytes_8 n h) ∙ ap (from_le_bytes w64) (same_once (to_le_bytes w64 n) m t))) s)
+    (λ t. s ∙ sym t))
 
-bytes-both : (xs ys : List ℕ) → bytes xs ≡ true → bytes ys ≡ true → bytes (xs ++ ys) ≡ true
-unfolding bytes
-bytes-both [] ys f g = g
-bytes-both (x ∷ xs) ys f g = and_both (and_left (ltb x 256) (bytes xs) f) (bytes-both xs ys (and_right (ltb x 256) (bytes xs) f) g)
-
--- eight places as twice four
-module _ (l : List ℕ) where
-  pub half_under : (i : ℕ) → bytes (places l i 4) ≡ true → low_first (places l i 4) < 0x1_0000_0000
-  half_under i h = four_under _ _ _ _ h
-
-  pub halves-number : length l ≡ 8 → low_first (places l 0 4) + 0x1_0000_0000 * low_first (places l 4 4) ≡ low_first l
-  unfolding low_first
-  halves-number e = omega (arith, ap low_first (spelt l 0 8 e))
-
-  pub halves-bytes : length l ≡ 8 → bytes (places l 0 4) ≡ true → bytes (places l 4 4) ≡ true → bytes l ≡ true
-  halves-bytes e f g = ap bytes (spelt l 0 8 e) ∙ bytes-both (places l 0 4) (places l 4 4) f g
-
--- two numbers with a byte below each
-two_parts : (x y m n : ℕ) → x < 256 → y < 256 → eqb (x + 256 * m) (y + 256 * n) ≡ (eqb x y && eqb m n)
-two_parts x y m n h k =
-    split (eqb x y)
-    (λ e.
-    split (eqb m n)
-    (λ f. rw (e, f) (eq-eqb (x + 256 * m) (y + 256 * n) (omega (arith, eqb-true x y e, eqb-true m n f))))
-    (λ f. rw (e, f) (ne_eqb (x + 256 * m) (y + 256 * n) (λ z. eqb-false m n f (omega arith)))))
-    (λ e. rw e (ne_eqb (x + 256 * m) (y + 256 * n) (λ z. eqb-false x y e (omega arith))))
-
--- two lists of as many bytes are one exactly where their numbers are
-pub same_number : (a b : List ℕ) → length a ≡ length b → bytes a ≡ true → bytes b ≡ true → eqb (low_first a) (low_first b) ≡ same_list a b
-unfolding low_first bytes same_list
-same_number [] [] e f g = refl
-same_number [] (y ∷ b) e f g = absurd (let no : ⊥ = omega (arith, e) in no)
-same_number (x ∷ a) [] e f g = absurd (let no : ⊥ = omega (arith, e) in no)
-same_number (x ∷ a) (y ∷ b) e f g =
-    two_parts x y (low_first a) (low_first b) (ltb-true x 256 (and_left (ltb x 256) (bytes a) f)) (ltb-true y 256 (and_left (ltb y 256) (bytes b) g))
-    ∙ ap (λ t. eqb x y && t) (same_number a b (omega (arith, e)) (and_right (ltb x 256) (bytes a) f) (and_right (ltb y 256) (bytes b) g))
-
--- the number of the right list, by its halves
-pub right_number : (a b c d e : Bool)
-    → low_first (places (list_for (index a b c d e)) 0 4) + 0x1_0000_0000 * low_first (places (list_for (index a b c d e)) 4 4) ≡ low_first (list_for (index a b c d e))
-right_number a b c d e = halves-number (list_for (index a b c d e)) (ap length (for_marks a b c d e) ∙ by_long a b c d e)
+-- a number of eight bytes by its halves
+halves : (l : List ℕ) → from_le_bytes w32 l + 0x1_0000_0000 * from_le_bytes w32 (drop 4 l) ≡ from_le_bytes w64 l
+halves l = omega (arith, get_or-drop {A = ℕ})
 
 -- so the test by numbers is the rule's
-pub judged : (p : Params) → length p.written ≡ 12 → length p.missing ≡ 8 → bytes p.missing ≡ true
-    → eqb (low_first p.missing) (low_first (list_for (asked_marks p.written))) ≡ list_kept p
+pub judged : (p : Params) (n : ℕ) → n < 2 ^ 64 → to_le_bytes w64 n ≡ p.missing → length p.written ≡ 12
+    → let right = list_for (asked_marks p.written) in
+    eqb n (from_le_bytes w32 right + 0x1_0000_0000 * from_le_bytes w32 (drop 4 right)) ≡ list_kept p
 unfolding list_kept
-judged p twelve eight small =
-    rw (twelve, for_marks (marked p 1) (marked p 2) (marked p 3) (marked p 6) (marked p 7), by_marks p)
-    (same_number p.missing _ (eight ∙ sym (by_long _ _ _ _ _)) small (by_bytes _ _ _ _ _))
+judged p n h e twelve =
+    rw (twelve, halves (list_for (asked_marks p.written)), for_marks (marked p 1) (marked p 2) (marked p 3) (marked p 6) (marked p 7), by_marks p, ← e)
+    (as_number n _ h (by_bytes _ _ _ _ _))
 
 -- it has eight places
 pub missing_long : (p : Params) → length (missing_of p) ≡ 8

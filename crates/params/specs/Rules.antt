@@ -1,14 +1,11 @@
 -- The rules of the parameters, each a definition that decides the result.
-use Rattle.std.specs.Prelude.{ℕ, ◌-◌, List, [], ◌∷◌, map, ◌⊎◌, Bool, true, false, not, ◌&&◌, cond, ℤ, pos, leb, eqb, length, get_or, set, replicate}
+use Rattle.std.specs.Prelude.{ℕ, ◌-◌, List, [], ◌∷◌, map, ◌⊎◌, Bool, true, false, not, ◌&&◌, cond, ℤ, pos, leb, eqb, length, get_or, set, replicate, Option, Some, None}
 use Rattle.std.proofs.Common.{inl, inr}
 use Rattle.std.specs.Int.Signed.{lt_z, le_z}
 use Rattle.std.proofs.lemmas.List.Edits.{sets}
 use Rattle.rows.specs.Same.{same_list}
 use Rattle.params.specs.declared.ParamRow.{ParamRow}
 use Rattle.params.specs.declared.Params.{Params}
-use Rattle.params.specs.declared.Wrote.{Wrote}
-use Rattle.params.specs.declared.Reading.{Reading}
-use Rattle.params.specs.declared.Reading.TheVariants.{Held, Unknown}
 use Rattle.params.specs.Rows.{param_rows, param_ids, param_row}
 
 -- "Ids 0 and over 12 get 0x39": an id is 1 to 12
@@ -80,9 +77,9 @@ stored p id v = record { values = set p.values (id - 1) v; written = set p.writt
 unfoldable pub write_allowed : Params → ℕ → ℤ → Bool
 write_allowed p id v = is_id id && (in_row (param_row id) v && in_span (stored p id v))
 
--- a write: stored, marked and struck out when it is taken, else everything as it was
-unfoldable pub write_of : Params → ℕ → ℤ → Wrote
-write_of p id v = record { taken = write_allowed p id v; params = cond (write_allowed p id v) (stored p id v) p }
+-- a write: stored, marked and struck out when it is taken, else refused
+unfoldable pub write_of : Params → ℕ → ℤ → Option Params
+write_of p id v = cond (write_allowed p id v) (Some (stored p id v)) None
 
 -- "A field outside its bounds: 0x39"
 abbrev pub outside_error : ℕ
@@ -92,7 +89,7 @@ outside_error = 0x39
 unfoldable pub value_read : Params → ℕ → ℕ ⊎ ℤ
 value_read p id = cond (is_id id) (inr (value_at p id)) (inl outside_error)
 
--- the number or the value that each answer of the code stands for
-abbrev pub reading_said : Reading → ℕ ⊎ ℤ
-reading_said Unknown = inl outside_error
-reading_said (Held v) = inr v
+-- the number or the value that each answer of the code stands for: an id that holds nothing is outside its bounds
+abbrev pub reading_said : Option ℤ → ℕ ⊎ ℤ
+reading_said None = inl outside_error
+reading_said (Some v) = inr v

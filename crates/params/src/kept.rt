@@ -1,18 +1,19 @@
 // The kept list of missing ids: an id struck out, and whether the list is the one that the marks decide.
-ghost use Rattle.std.specs.Prelude.{◌≡◌, true, [], ◌∷◌, ◌<◌, ◌≤◌};
+ghost use Rattle.std.specs.Prelude.{◌≡◌, ◌+◌, ◌*◌, ◌<◌, drop};
+ghost use Rattle.std.specs.Int.{from_le_bytes, to_le_bytes, w32, w64};
 ghost use Rattle.params.specs.Rules.{struck, list_kept};
-ghost use Rattle.params.specs.Packed.{bit_of, low_first, bytes, places, asked_marks, list_for};
+ghost use Rattle.params.specs.Packed.{asked_marks, list_for};
 
 use crate::Params;
 
-// A list without an id: those behind it move up.
+// A list without an id: those behind it move up. `n` is counted by hand: in a loop over a `zip` of `iter_mut` with a filter the proof
+// has no name for what `out` holds.
 pub fn struck(list: [u8; 8], id: u8) -> [u8; 8]
     ensures { result ≡ struck id list }
 {
     let mut out = [0u8; 8];
     let mut n: usize = 0;
-    for i in 0..8usize {
-        let k = list[i];
+    for k in list {
         if k != id {
             out[n] = k;
             n += 1;
@@ -21,38 +22,30 @@ pub fn struck(list: [u8; 8], id: u8) -> [u8; 8]
     out
 }
 
-// Four bytes as one number, the first one lowest.
-fn four(a: u8, b: u8, c: u8, d: u8) -> u64
-    ensures { (result ≡ low_first (a ∷ b ∷ c ∷ d ∷ [])) × (bytes (a ∷ b ∷ c ∷ d ∷ []) ≡ true) }
-{
-    a as u64 + 256 * (b as u64 + 256 * (c as u64 + 256 * d as u64))
-}
-
-// The eight places as one number, the first one lowest: the compiler makes one load of it.
+// The number whose bytes are the eight places, the first one lowest: the compiler makes one load of it.
 fn packed(l: [u8; 8]) -> u64
-    ensures { (result ≡ low_first l) × (bytes l ≡ true) }
+    ensures { to_le_bytes w64 result ≡ l }
 {
-    four(l[0], l[1], l[2], l[3]) + 0x1_0000_0000 * four(l[4], l[5], l[6], l[7])
-}
-
-fn bit(b: bool) -> u8
-    ensures { (result ≡ bit_of b) × (result ≤ 1) }
-{
-    if b { 1 } else { 0 }
+    u64::from_le_bytes(l)
 }
 
 // The marks of 1, 2, 3, 6 and 7 as the bits of a number, the first one lowest.
 fn marks(w: [bool; 12]) -> u8
     ensures { (result ≡ asked_marks w) × (result < 32) }
 {
-    bit(w[0]) + 2 * bit(w[1]) + 4 * bit(w[2]) + 8 * bit(w[5]) + 16 * bit(w[6])
+    u8::from(w[0])
+        + 2 * u8::from(w[1])
+        + 4 * u8::from(w[2])
+        + 8 * u8::from(w[5])
+        + 16 * u8::from(w[6])
 }
 
 // The first four places of the right list as such a number, by those marks. Four and not eight, since the compiler makes one look
 // into a table of it then also where a register has 32 bits.
+#[tactic(auto, unfolding(crate::specs::Packed::list_for, crate::specs::Packed::list_by))]
 fn list_for(k: u8) -> u32
     requires { k < 32 }
-    ensures { result ≡ low_first (places (list_for k) 0 4) }
+    ensures { result ≡ from_le_bytes w32 (list_for k) }
 {
     match k {
         0 => 0x0603_0201,
@@ -91,9 +84,10 @@ fn list_for(k: u8) -> u32
 }
 
 // And the last four: only where none is written is there a fifth id.
+#[tactic(auto, unfolding(crate::specs::Packed::list_for, crate::specs::Packed::list_by))]
 fn rest_for(k: u8) -> u32
     requires { k < 32 }
-    ensures { result ≡ low_first (places (list_for k) 4 4) }
+    ensures { result ≡ from_le_bytes w32 (drop 4 (list_for k)) }
 {
     match k {
         0 => 7,
@@ -102,11 +96,9 @@ fn rest_for(k: u8) -> u32
 }
 
 // Whether the kept list is the one that the marks decide.
-pub fn listed(p: Params) -> bool
-    ensures { result ≡ list_kept p }
+pub fn listed(p: &Params) -> bool
+    ensures { result ≡ list_kept p.now }
 {
-    let written = p.written;
-    let list = p.missing;
-    let k = marks(written);
-    packed(list) == list_for(k) as u64 + 0x1_0000_0000 * rest_for(k) as u64
+    let k = marks(p.written);
+    packed(p.missing) == u64::from(list_for(k)) + 0x1_0000_0000 * u64::from(rest_for(k))
 }

@@ -3,7 +3,7 @@
 
 mod kept;
 
-ghost use Rattle.std.specs.Prelude.{◌≡◌, ◌&&◌, ◌<◌, get_or};
+ghost use Rattle.std.specs.Prelude.{◌≡◌, ◌&&◌, ◌-◌, ◌<◌, true, false, MatchOption, get_or};
 ghost use Rattle.params.specs.Rows.{param_rows, no_param_row, param_row};
 ghost use Rattle.params.specs.Rules.{is_id, in_row, in_span, start_params, write_of, value_read, reading_said, sound_params};
 
@@ -18,26 +18,13 @@ pub struct ParamRow {
 }
 
 // The values, and whether each was written since Initialise; id 1 first. The ids that are asked and not written, as Status shows
-// them.
+// them. Two lists and not one of pairs, since the definitions (`in_rows`, `list_kept`, `stored`) have each by itself; zeros behind the ids and
+// no `Option`, since document 01 has eight ids, "then zeros" (`missing_of`).
 #[derive(Clone, Copy)]
 pub struct Params {
     pub values: [i32; 12],
     pub written: [bool; 12],
     pub missing: [u8; 8],
-}
-
-// The next state: the same one where the write was not taken.
-#[derive(Clone, Copy)]
-pub struct Wrote {
-    pub taken: bool,
-    pub params: Params,
-}
-
-// What an id holds: nothing where it is no id.
-#[derive(Clone, Copy)]
-pub enum Reading {
-    Held(i32),
-    Unknown,
 }
 
 const TRIM: ParamRow = ParamRow {
@@ -128,39 +115,49 @@ fn in_row(r: ParamRow, v: i32) -> bool
 }
 
 // Whether parameter 1 is below parameter 2.
-fn in_span(p: Params) -> bool
-    ensures { result ≡ in_span p }
+fn in_span(p: &Params) -> bool
+    ensures { result ≡ in_span p.now }
 {
     p.values[0] < p.values[1]
 }
 
 // Whether a byte is a parameter's id.
+#[tactic(auto, unfolding(crate::specs::Rules::is_id))]
 pub fn is_id(id: u8) -> bool
     ensures { result ≡ is_id id }
 {
     (1 <= id) & (id <= 12)
 }
 
+// The place of an id among the rows, the values and the marks.
+#[tactic(auto, unfolding(crate::specs::Rules::is_id))]
+fn place_of(id: u8) -> Option<usize>
+    ensures { MatchOption result (is_id id ≡ false) (λ i. (is_id id ≡ true) × (i ≡ id - 1) × (i < 12)) }
+{
+    match id {
+        1..=12 => Some(usize::from(id - 1)),
+        _ => None,
+    }
+}
+
 // Whether a byte is an id and a value is in its row; that 1 stays below 2 is another matter.
 pub fn in_bounds(id: u8, value: i32) -> bool
     ensures { result ≡ (is_id id && in_row (param_row id) value) }
 {
-    match id {
-        1..=12 => in_row(row_at((id - 1) as usize), value),
-        _ => false,
+    match place_of(id) {
+        Some(i) => in_row(row_at(i), value),
+        None => false,
     }
 }
 
-// The ids that are asked, rising, then zeros.
+// The ids that are asked, rising, then zeros; `n` counts them as in `struck`.
 fn asked_ids() -> [u8; 8]
     ensures { result ≡ start_params.missing }
 {
-    let table = ROWS;
     let mut out = [0u8; 8];
     let mut n: usize = 0;
-    for i in 0..12usize {
-        let r = table[i];
-        if r.asked {
+    for (i, row) in ROWS.iter().enumerate() {
+        if row.asked {
             out[n] = (i + 1) as u8;
             n += 1;
         }
@@ -169,80 +166,51 @@ fn asked_ids() -> [u8; 8]
 }
 
 // All parameters at their starts, nothing written, each asked one missing.
+#[tactic(auto, unfolding(crate::specs::Rules::start_params))]
 pub fn start() -> Params
     ensures { result ≡ start_params }
 {
-    let table = ROWS;
-    let mut values = [0i32; 12];
-    for i in 0..12usize {
-        let r = table[i];
-        let s = r.start;
-        values[i] = s;
-    }
-    let missing = asked_ids();
     Params {
-        values,
+        values: ROWS.map(|row| row.start),
         written: [false; 12],
-        missing,
+        missing: asked_ids(),
     }
 }
 
-// A write: stored, marked and struck out, or refused with the state as it was.
-pub fn write(p: Params, id: u8, value: i32) -> Wrote
-    ensures { result ≡ write_of p id value }
+// A write: the state with the value stored, its id marked and struck out; none where it is not taken.
+#[tactic(auto, unfolding(crate::specs::Rules::write_of, crate::specs::Rules::write_allowed))]
+pub fn write(p: &Params, id: u8, value: i32) -> Option<Params>
+    ensures { result ≡ write_of p.now id value }
 {
-    match id {
-        1..=12 => {
-            let i = (id - 1) as usize;
-            let mut q = p;
-            q.values[i] = value;
-            q.written[i] = true;
-            let list = p.missing;
-            let left = struck(list, id);
-            q.missing = left;
-            if in_row(row_at(i), value) & in_span(q) {
-                Wrote {
-                    taken: true,
-                    params: q,
-                }
-            } else {
-                Wrote {
-                    taken: false,
-                    params: p,
-                }
-            }
-        }
-        _ => Wrote {
-            taken: false,
-            params: p,
-        },
+    let i = place_of(id)?;
+    let mut q = *p;
+    q.values[i] = value;
+    q.written[i] = true;
+    q.missing = struck(p.missing, id);
+    if in_row(row_at(i), value) & in_span(&q) {
+        Some(q)
+    } else {
+        None
     }
 }
 
 // The value of an id.
-pub fn value(p: Params, id: u8) -> Reading
-    ensures { reading_said result ≡ value_read p id }
+#[tactic(auto, unfolding(crate::specs::Rules::value_read))]
+pub fn value(p: &Params, id: u8) -> Option<i32>
+    ensures { reading_said result ≡ value_read p.now id }
 {
-    match id {
-        1..=12 => {
-            let i = (id - 1) as usize;
-            let v = p.values[i];
-            Reading::Held(v)
-        }
-        _ => Reading::Unknown,
-    }
+    let i = place_of(id)?;
+    Some(p.values[i])
 }
 
-// Whether each value is in its row, parameter 1 below parameter 2, and the kept list the one that the marks decide.
-pub fn sound(p: Params) -> bool
-    ensures { result ≡ sound_params p }
+// Whether each value is in its row, parameter 1 below parameter 2, and the kept list the one that the marks decide. A
+// flag goes through the loop, since `all`, which stops at the first, makes every call 21 instructions dearer, over the bar of a word call.
+pub fn sound(p: &Params) -> bool
+    ensures { result ≡ sound_params p.now }
 {
-    let table = ROWS;
     let mut ok = true;
-    for i in 0..12usize {
-        let v = p.values[i];
-        let r = table[i];
-        ok = ok & in_row(r, v);
+    for (row, v) in ROWS.iter().zip(&p.values) {
+        ok = ok & in_row(*row, *v);
     }
-    ok & (in_span(p) & listed(p))
+    ok & in_span(p) & listed(p)
 }

@@ -12,15 +12,20 @@ abbrev pub started : Desk
 started = desk 0 0 0 (2 ^ 64 - 1)
 
 -- what a turn leaves, whatever becomes of the input and the output: a line that is held stays so while the output goes on
-pub data Went (c : Cursor) (have left : ℕ) : Desk → Type 0 where
+pub data Went (d : Desk) : Desk → Type 0 where
   -- the output failed
-  failed : Went c have left (desk 0 0 0 0)
+  failed : Went d (desk 0 0 0 0)
   -- the piece has more lines
-  stays : c.from < have → Went c have left (desk c.from c.held have left)
+  stays : d.cursor.from < d.have → Went d d
   -- the input ended
-  ends : have ≤ c.from → Went c have left (desk 0 c.held 0 0)
+  ends : d.have ≤ d.cursor.from → Went d (desk 0 d.cursor.held 0 0)
   -- the next piece is read
-  reads : have ≤ c.from → (n : ℕ) → 1 ≤ n → n ≤ 65536 → Went c have left (desk 0 c.held n left)
+  reads : d.have ≤ d.cursor.from → (n : ℕ) → 1 ≤ n → n ≤ 65536 → Went d (desk 0 d.cursor.held n d.left)
+
+-- the cursor within the piece, no line held that is too long
+pub record InPiece (c : Cursor) (have : ℕ) : Type 0 where
+  pub start : c.from ≤ have
+  pub longest : c.held ≤ 196607
 
 -- the bounds: the cursor within the piece, no line held that is too long, no piece over the size of the loop's array
 pub record Bounded (d : Desk) : Type 0 where

@@ -1,15 +1,20 @@
 // Input in large pieces, and output written once it is gathered: what a program does between two pieces.
 #![tactic(auto)]
 
+mod turns;
+
 ghost use Rattle.std.specs.Prelude.{◌≡◌};
 ghost use Rattle.pieces.specs.Desks.{started, Went};
 
+use items::Output;
 use lines::Cursor;
 use std::io::{Read, Stdin};
+pub use turns::{Answers, gather, run};
 
 // The desk between two pieces: where the next line starts, how much of the piece there is, and how many turns are left, none
 // once the input or the output has ended. A proved loop has to end, and nothing says that input does: so the turns left become
-// fewer, from a number that no run uses up.
+// fewer, from a number that no run uses up. How much there is stands beside the piece, and is no slice of it: the memory is fixed, and the
+// next piece is read into the same array.
 #[derive(Clone, Copy)]
 pub struct Desk {
     pub cursor: Cursor,
@@ -28,43 +33,35 @@ pub fn start() -> Desk
     }
 }
 
-// Writes what is gathered.
-pub fn flush(out: &[u8; 65536], at: usize) -> bool {
-    io::write_all(1, items::front(out, at))
+// Writes what is gathered, and whether that went well; nothing is gathered then. A bool as `io::write_all` gives it, here and in `Answers`:
+// there is no error to hand on, and `next_piece` alone asks. By `front`, since nothing here bounds the output's place.
+pub fn flush(out: &mut Output<65536>) -> bool
+    ensures at { out.new.at ≡ 0 }
+    ensures characters { out.new.out ≡ out.old.out }
+{
+    let written = io::write_all(1, items::front(&out.out, out.at));
+    out.at = 0;
+    written
 }
 
-// What is gathered is written; and where the piece is answered to its end the next one is read. At the end of input a line
-// without its newline is still held; where the output fails all ends.
-pub fn next_piece(
-    cursor: Cursor,
-    have: usize,
-    left: u64,
-    at: usize,
-    piece: &mut [u8; 65536],
-    out: &[u8; 65536],
-    input: &mut Stdin,
-) -> Desk
-    ensures { Went cursor have left result }
+// Where the piece is answered to its end the next one is read. At the end of input a line without its newline is still held; where
+// what was gathered could not be written all ends.
+pub fn next_piece(desk: Desk, written: bool, piece: &mut [u8; 65536], input: &mut Stdin) -> Desk
+    ensures { Went desk result }
 {
-    if !flush(out, at) {
+    let Cursor { from, held } = desk.cursor;
+    if !written {
         return Desk {
             cursor: Cursor { from: 0, held: 0 },
             have: 0,
             left: 0,
         };
     }
-    if cursor.from < have {
-        return Desk { cursor, have, left };
+    if from < desk.have {
+        return desk;
     }
-    let held = cursor.held;
     let n = input.read(piece).unwrap_or(0);
-    if n == 0 {
-        return Desk {
-            cursor: Cursor { from: 0, held },
-            have: 0,
-            left: 0,
-        };
-    }
+    let left = if n == 0 { 0 } else { desk.left };
     Desk {
         cursor: Cursor { from: 0, held },
         have: n,

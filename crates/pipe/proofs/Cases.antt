@@ -5,6 +5,8 @@ use mathlib.Core.List.{[], ◌∷◌, ◌++◌}
 use native.Mathlib.Omega.{arith}
 use borrow.Author.Tests.{lt-ltb, le-ltb, eq-eqb, ne_eqb, ltb-true, ltb-false, eqb-true, eqb-false}
 use lib.Dec.{ltb, eqb}
+use lib.ListN.{length, take, set}
+use lib.Seq.{take-suc-set}
 use Rattle.rows.proofs.Bool.{by-test}
 use Rattle.pipe.specs.declared.Input.{Input}
 use Rattle.pipe.specs.declared.Piped.{Piped}
@@ -16,9 +18,14 @@ unfolding pipe_byte
 byte_gathers i b h = simp (lt-ltb i.gathered 7 h)
 
 -- the eighth sends all eight, and nothing stays gathered
-pub byte_sends : (i : Input) (b : ℕ) → 7 ≤ i.gathered → pipe_byte i b ≡ piped (held_in i ++ (b ∷ [])) (empty_input i.timeouts)
-unfolding pipe_byte
-byte_sends i b h = simp (le-ltb i.gathered 7 h)
+pub byte_sends : (i : Input) (b : ℕ) → 7 ≤ i.gathered → i.gathered ≤ 7 → length i.bytes ≡ 8
+    → pipe_byte i b ≡ piped (take 8 (set i.bytes i.gathered b)) (empty_input i.timeouts)
+unfolding pipe_byte held_in
+byte_sends i b h k long =
+    let last : i.gathered ≡ 7 = omega arith in
+    let inside : 7 < length i.bytes = omega arith in
+    let all : take 8 (set i.bytes 7 b) ≡ take 7 i.bytes ++ (b ∷ []) = take-suc-set i.bytes 7 b inside in
+    simp (le-ltb i.gathered 7 h) (rw (last, all))
 
 -- a timeout with none gathered does nothing
 pub timeout_idle : (i : Input) → i.gathered ≡ 0 → pipe_timeout i ≡ piped [] i

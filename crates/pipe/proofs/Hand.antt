@@ -28,9 +28,9 @@ unfolding held_out
 none_out o long e = drop_of_length-le o.bytes {i = 8 - o.hand} (omega arith)
 
 -- with some, the byte being shown stands where the last ones begin
-pub shown-out : (o : Output) → length o.bytes ≡ 8 → 1 ≤ o.hand → o.hand ≤ 8 → shown_out o ≡ get_or o.bytes (8 - o.hand) 0 ∷ []
+pub shown_first : (o : Output) → length o.bytes ≡ 8 → 1 ≤ o.hand → o.hand ≤ 8 → shown_out o ≡ get_or o.bytes (8 - o.hand) 0 ∷ []
 unfolding held_out
-shown-out o long some few = ap (λ (l : List ℕ). take 1 l) (drop-cons o.bytes (8 - o.hand) 0 (omega arith))
+shown_first o long some few = ap (λ (l : List ℕ). take 1 l) (drop-cons o.bytes (8 - o.hand) 0 (omega arith))
 
 -- all of a packet of eight is held
 pub held_packet : (o : Output) (b : List ℕ) → held_out (output_packet o b).output ≡ b

@@ -1,4 +1,3 @@
-pub mod Zeros
 pub mod Cases
 pub mod Held
 pub mod Hand

@@ -1,80 +1,61 @@
-// What may be repeated: a letter for each call, and calls that give the same together.
-use crate::setup::number;
+// What may be repeated: a letter for each call, and one call of each.
 use blocks::Store;
-use rules::{Called, Passed, Pod, Worded};
+use rules::{Answer, Pod, Refusal};
 
-#[derive(Clone, Copy)]
-pub enum Port {
+// One enum of what is asked, matched once: each call is lent other things and gives another answer.
+#[derive(Clone, Copy, PartialEq, Eq)]
+pub enum Call {
     Packet,
     Put,
     Deadline,
-}
-
-#[derive(Clone, Copy)]
-pub enum Word {
     Command,
     In,
     Out,
     Status,
-}
-
-#[derive(Clone, Copy)]
-pub enum Flow {
     Byte,
     Timeout,
-    Out,
-}
-
-#[derive(Clone, Copy)]
-pub enum Shown {
+    Taken,
     Samples,
     Sum,
 }
 
-#[derive(Clone, Copy)]
-pub enum Call {
-    Other,
-    Port(Port),
-    Word(Word),
-    Pipe(Flow),
-    Shown(Shown),
-}
-
-pub fn call_of(letter: u8) -> Call {
+pub fn call_of(letter: u8) -> Option<Call> {
     match letter {
-        b'P' => Call::Port(Port::Packet),
-        b'B' => Call::Port(Port::Put),
-        b'D' => Call::Port(Port::Deadline),
-        b'C' => Call::Word(Word::Command),
-        b'W' => Call::Word(Word::In),
-        b'R' => Call::Word(Word::Out),
-        b'S' => Call::Word(Word::Status),
-        b'I' => Call::Pipe(Flow::Byte),
-        b'T' => Call::Pipe(Flow::Timeout),
-        b'O' => Call::Pipe(Flow::Out),
-        b'K' => Call::Pipe(Flow::Out),
-        b'A' => Call::Shown(Shown::Samples),
-        b'Y' => Call::Shown(Shown::Sum),
-        _ => Call::Other,
+        b'P' => Some(Call::Packet),
+        b'B' => Some(Call::Put),
+        b'D' => Some(Call::Deadline),
+        b'C' => Some(Call::Command),
+        b'W' => Some(Call::In),
+        b'R' => Some(Call::Out),
+        b'S' => Some(Call::Status),
+        b'I' => Some(Call::Byte),
+        b'T' => Some(Call::Timeout),
+        b'O' | b'K' => Some(Call::Taken),
+        b'A' => Some(Call::Samples),
+        b'Y' => Some(Call::Sum),
+        _ => None,
     }
 }
 
-pub fn ported(
-    port: Port,
-    pod: Pod,
-    bytes: &[u8],
-    room: &mut [u8; 260],
-    priority: &[u8; 4096],
-    ordinary: &mut [u8; 32768],
-    five: &mut [u16; 64],
-    six: &mut [u16; 128],
-    seven: &mut [u16; 64],
-) -> Called {
-    match port {
-        Port::Packet => pod::packet(pod, bytes, room, priority, ordinary, five, six, seven),
-        Port::Put => pod::put(pod, Store::Ordinary, ordinary, bytes),
-        Port::Deadline => pod::deadline(pod),
+impl Call {
+    // Whether it is a table word.
+    pub fn is_word(self) -> bool {
+        matches!(self, Call::Command | Call::In | Call::Out | Call::Status)
     }
+}
+
+// What is lent to the calls, and a byte of what a call before showed.
+#[derive(Drop)]
+pub struct Lent {
+    pub message: [u8; 258],
+    pub room: [u8; 260],
+    pub priority: [u8; 4096],
+    pub ordinary: [u8; 32768],
+    pub load: [u16; 64],
+    pub five: [u16; 64],
+    pub six: [u16; 128],
+    pub seven: [u16; 64],
+    pub byte: u8,
 }
 
 // The words of a right load of 64 to table 6: its number, the address, the count, then data.
@@ -87,58 +68,100 @@ fn load_word(turn: usize) -> u16 {
     }
 }
 
-pub fn worded(
-    kind: Word,
-    pod: Pod,
-    word: u16,
-    turn: usize,
-    load: &mut [u16; 64],
-    five: &mut [u16; 64],
-    six: &mut [u16; 128],
-    seven: &mut [u16; 64],
-) -> Worded {
-    match kind {
-        Word::Command => pod::command_word(pod, word, five, six, seven),
-        Word::In => pod::data_in(pod, load_word(turn), load, five, six, seven),
-        Word::Out => pod::data_out(pod, five, six, seven),
-        Word::Status => pod::status_word(pod),
+impl Lent {
+    fn packet(&mut self, pod: &mut Pod, bytes: &[u8]) -> Result<usize, Refusal> {
+        pod::packet(
+            pod,
+            bytes,
+            &mut self.room,
+            &self.priority,
+            &self.ordinary,
+            &mut self.five,
+            &mut self.six,
+            &mut self.seven,
+        )
     }
-}
 
-// Of nine calls with a timeout the first is a packet out and the ninth the timeout, which finds seven bytes gathered and eight in
-// hand. Of nine of the output half the first is a packet out, and eight bytes of it are taken.
-pub fn passed(flow: Flow, pod: Pod, byte: u8, turn: usize) -> Passed {
-    match flow {
-        Flow::Byte => pod::pipe_byte(pod, byte),
-        Flow::Timeout => match turn % 9 {
-            0 => pod::packet_out(pod, &[byte; 8]),
-            8 => pod::pipe_timeout(pod),
-            _ => pod::pipe_byte(pod, byte),
-        },
-        Flow::Out => match turn % 9 {
-            0 => pod::packet_out(pod, &[byte; 8]),
-            _ => pod::taken(pod),
-        },
+    pub fn command(&mut self, pod: &mut Pod, word: u16) -> Result<(), Refusal> {
+        pod::command_word(pod, word, &mut self.five, &mut self.six, &mut self.seven)
     }
-}
 
-// A byte goes in, and something of what the call gives comes back.
-pub fn value_of(
-    kind: Shown,
-    pod: Pod,
-    byte: u8,
-    samples: &[u16; 128],
-    message: &mut [u8; 258],
-) -> u16 {
-    match kind {
-        Shown::Samples => {
-            let framed = pod::samples(pod, byte % 32, samples);
-            let frames = framed.frames;
-            number(0, frames.an03[7] / 4)
-        }
-        Shown::Sum => {
-            message[0] = byte;
-            crc::crc_of(message)
+    fn data_in(&mut self, pod: &mut Pod, word: u16) -> Result<(), Refusal> {
+        pod::data_in(
+            pod,
+            word,
+            &mut self.load,
+            &mut self.five,
+            &mut self.six,
+            &mut self.seven,
+        )
+    }
+
+    // Of nine calls with a timeout the first is a packet out and the ninth the timeout, which finds seven bytes gathered and
+    // eight in hand.
+    fn timeout(&self, pod: &mut Pod, turn: usize) -> Result<(), Refusal> {
+        let _sent = match turn % 9 {
+            0 => pod::packet_out(pod, &[self.byte; 8])?,
+            8 => pod::pipe_timeout(pod)?,
+            _ => pod::pipe_byte(pod, self.byte)?,
+        };
+        Ok(())
+    }
+
+    // Of nine calls of the output half the first is a packet out, and eight bytes of it are taken.
+    fn taken(&self, pod: &mut Pod, turn: usize) -> Result<(), Refusal> {
+        let _sent = match turn % 9 {
+            0 => pod::packet_out(pod, &[self.byte; 8])?,
+            _ => pod::taken(pod)?,
+        };
+        Ok(())
+    }
+
+    // A byte of what this shows goes into the next call, so that none can be left out.
+    fn shown(&mut self, value: u16) -> Answer {
+        self.byte = (value % 256) as u8;
+        Answer::Word(value)
+    }
+
+    fn samples(&mut self, pod: &Pod) -> Answer {
+        let value = match pod::samples(pod, self.byte % 32, &self.six) {
+            Ok(frames) => u16::from(frames.an03[7] / 4),
+            Err(_) => 0,
+        };
+        self.shown(value)
+    }
+
+    fn sum(&mut self) -> Answer {
+        self.message[0] = self.byte;
+        let value = crc::crc_of(&self.message);
+        self.shown(value)
+    }
+
+    // One call.
+    // What is handed in stands by itself, since each call takes other parts of it.
+    pub fn answer(
+        &mut self,
+        call: Call,
+        pod: &mut Pod,
+        word: u16,
+        bytes: &[u8],
+        turn: usize,
+    ) -> Result<Answer, Refusal> {
+        match call {
+            Call::Packet => self.packet(pod, bytes).map(Answer::Length),
+            Call::Put => {
+                pod::put(pod, Store::Ordinary, &mut self.ordinary, bytes).map(|()| Answer::Done)
+            }
+            Call::Deadline => pod::deadline(pod).map(|()| Answer::Done),
+            Call::Command => self.command(pod, word).map(|()| Answer::Done),
+            Call::In => self.data_in(pod, load_word(turn)).map(|()| Answer::Done),
+            Call::Out => pod::data_out(pod, &self.five, &self.six, &self.seven).map(Answer::Word),
+            Call::Status => pod::status_word(pod).map(Answer::Word),
+            Call::Byte => pod::pipe_byte(pod, self.byte).map(|_| Answer::Done),
+            Call::Timeout => self.timeout(pod, turn).map(|()| Answer::Done),
+            Call::Taken => self.taken(pod, turn).map(|()| Answer::Done),
+            Call::Samples => Ok(self.samples(pod)),
+            Call::Sum => Ok(self.sum()),
         }
     }
 }

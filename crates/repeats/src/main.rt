@@ -10,38 +10,46 @@ mod calls;
 mod setup;
 mod turns;
 
-use crate::calls::Call;
-use crate::setup::number;
-use items::Items;
-use rules::Answer;
+use crate::calls::{Call, call_of};
+use items::{Output, bytes_in, front};
+use rules::{Answer, Refusal};
 
-fn print(letter: u8, answer: Answer) {
-    let mut out = [0u8; 8];
-    let n = answers::put_answer(&mut out, 0, letter, answer);
-    io::write_all(1, items::front(&out, n));
+fn print(letter: u8, answer: Result<Answer, Refusal>) {
+    let mut out = Output::<8> { out: [0; 8], at: 0 };
+    answers::put_answer(&mut out, letter, answer);
+    io::write_all(1, front(&out.out, out.at));
 }
 
-fn print_packet(answer: Answer, room: &[u8; 260]) {
-    let mut out = [0u8; 784];
-    let n = answers::put_packet(&mut out, 0, answer, room);
-    io::write_all(1, items::front(&out, n));
+// The last packet's answer lies at the start of the room; with no call there is none, and the letter stands alone.
+// It has another room than `print` and another writer of `answers`; what is alike is the line at the end.
+fn print_packet(answer: Result<Answer, Refusal>, room: &[u8; 260]) {
+    let count = match answer {
+        Ok(Answer::Length(n)) => Ok(n),
+        Err(why) => Err(why),
+        other => return print(b'P', other),
+    };
+    let mut out = Output::<784> {
+        out: [0; 784],
+        at: 0,
+    };
+    answers::put_packet(&mut out, count, room);
+    io::write_all(1, front(&out.out, out.at));
 }
 
 // Any other line.
 fn other() {
-    print(b'?', Answer::Done);
+    print(b'?', Ok(Answer::Done));
 }
 
 fn repeat(letter: u8, call: Call, given: &[u8]) {
-    if given.len() < 3 {
+    let [waiting, high, low, bytes @ ..] = given else {
         return other();
-    }
-    let waiting = number(0, given[0]) as usize;
-    let times = number(given[1], given[2]) as usize;
-    let bytes = &given[3..];
+    };
+    let start = setup::awake(usize::from(*waiting));
+    let times = usize::from(u16::from_be_bytes([*high, *low]));
     let mut room = [0u8; 260];
-    let answer = turns::prepared(call, times, setup::awake(waiting), bytes, &mut room);
-    if letter == b'P' {
+    let answer = turns::prepared(call, times, start, bytes, &mut room);
+    if call == Call::Packet {
         return print_packet(answer, &room);
     }
     print(letter, answer);
@@ -57,12 +65,11 @@ fn main() {
         return other();
     }
     let letter = line[0];
-    let call = calls::call_of(letter);
-    if let Call::Other = call {
+    let Some(call) = call_of(letter) else {
         return other();
-    }
-    match items::bytes_in(&line[1..end], &mut given) {
-        Items::Good(count) => repeat(letter, call, items::front(&given, count)),
-        Items::Bad => other(),
+    };
+    match bytes_in(&line[1..end], &mut given) {
+        Some(count) => repeat(letter, call, front(&given, count)),
+        None => other(),
     }
 }

@@ -8,28 +8,21 @@ pub fn awake(waiting: usize) -> Pod {
     pod.initialised = true;
     pod.fields.memorylimit = 0xFFFF_FFFF;
     pod.fields.memoryremaining = 0xFFFF_FFFF;
-    let ring = Ring { oldest: 3, waiting };
-    pod.ordinary = ring;
+    pod.ordinary = Ring { oldest: 3, waiting };
     pod
 }
 
 // Bytes that differ from their neighbours.
 pub fn fill(bytes: &mut [u8]) {
-    let mut i = 0;
-    while i < bytes.len() {
-        bytes[i] = (i % 251) as u8;
-        i += 1;
+    for (i, b) in bytes.iter_mut().enumerate() {
+        *b = (i % 251) as u8;
     }
-}
-
-pub fn number(high: u8, low: u8) -> u16 {
-    (high as u16) * 256 + (low as u16)
 }
 
 // The two words at the start, or 0 and 0.
 pub fn two_words(bytes: &[u8]) -> [u16; 2] {
-    if bytes.len() < 4 {
-        return [0, 0];
+    match bytes {
+        [a, b, c, d, ..] => [u16::from_be_bytes([*a, *b]), u16::from_be_bytes([*c, *d])],
+        _ => [0, 0],
     }
-    [number(bytes[0], bytes[1]), number(bytes[2], bytes[3])]
 }

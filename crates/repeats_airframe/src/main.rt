@@ -8,14 +8,18 @@
 
 mod turns;
 
-use items::Items;
+use items::{Output, bytes_in, front};
 use packets::Parsed;
 
 // A letter and at most 256 bytes.
+// As in `repeats` it ends with a line that writes what is gathered; the line before it is another.
 fn print(letter: u8, bytes: &[u8]) {
-    let mut out = [0u8; 772];
-    let n = items::bytes_line(&mut out, 0, letter, items::front(bytes, 256));
-    io::write_all(1, items::front(&out, n));
+    let mut line = Output {
+        out: [0u8; 772],
+        at: 0,
+    };
+    line.bytes_line(letter, front(bytes, 256));
+    io::write_all(1, front(&line.out, line.at));
 }
 
 // Any other line.
@@ -24,7 +28,7 @@ fn other() {
 }
 
 fn print_room(n: usize, room: &[u8; 25]) {
-    print(b'Q', items::front(room, n));
+    print(b'Q', front(room, n));
 }
 
 fn build(times: usize, packet: &[u8]) {
@@ -58,7 +62,7 @@ fn repeat(letter: u8, given: &[u8]) {
     if given.len() < 3 {
         return other();
     }
-    let times = numbers::two_at(given, 1) as usize;
+    let times = usize::from(numbers::two_at(given, 1));
     match letter {
         b'Q' => build(times, &given[3..]),
         b'P' => read(times, &given[3..]),
@@ -75,8 +79,8 @@ fn main() {
     if end == 0 {
         return other();
     }
-    match items::bytes_in(&line[1..end], &mut given) {
-        Items::Good(count) => repeat(line[0], items::front(&given, count)),
-        Items::Bad => other(),
+    match bytes_in(&line[1..end], &mut given) {
+        Some(count) => repeat(line[0], front(&given, count)),
+        None => other(),
     }
 }

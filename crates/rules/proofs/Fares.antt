@@ -11,12 +11,11 @@ use borrow.Author.Tests.{lt-ltb}
 use Rattle.rows.specs.Rows.{Out, out}
 use Rattle.tables.specs.declared.Header.{Header}
 use Rattle.tables.specs.declared.Words.{Words}
-use Rattle.tables.specs.declared.Answered.{Answered}
 use Rattle.tables.specs.declared.Transfer.{Transfer}
 use Rattle.tables.specs.declared.Transfer.TheVariants.{Idle, Load, Read}
 use Rattle.tables.specs.Tables.{Three}
 use Rattle.orders.specs.Command.{order_heard}
-use Rattle.tables.specs.Port.{Desk, desk, Tabled, tabled, with_transfer, close_of, wrong_way, command_of, word_taken, data_in_of, read_next, word_given, data_out_of, status_of}
+use Rattle.tables.specs.Port.{Answered, Desk, desk, Tabled, tabled, with_transfer, close_of, wrong_way, command_of, word_taken, data_in_of, read_next, word_given, data_out_of, status_of}
 use Rattle.tables.specs.Bounds.{sound_words}
 use Rattle.tables.proofs.Kept.{command_sound, data_in_sound, data_out_sound}
 use Rattle.tables.proofs.Closing.{off-command, idle_in, idle_out, wrong_idle}
@@ -24,7 +23,7 @@ use Rattle.tables.proofs.Limits.{sound_places_lem, sound_transfer_lem, both_soun
 use Rattle.tables.proofs.Stale.{gathered as came_of, data_in_unseen}
 use Rattle.tables.proofs.Loading.{load_more}
 use Rattle.tables.proofs.Obeying.{given_by}
-use Rattle.rules.specs.Refusals.{Giving, done, reads}
+use Rattle.rules.specs.Refusals.{Giving, done}
 use Rattle.rules.specs.Families.{WordCall, command, data_in, data_out, status, word_written, word_read, word_of}
 use Rattle.rules.specs.Traits.{traits}
 use Rattle.rules.proofs.WordsAlike.{Gathered, none_came, SameDesk, same-desk, obeyed-none, given-none, unseen_same}

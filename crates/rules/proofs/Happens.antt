@@ -19,7 +19,7 @@ use Rattle.tables.specs.Tables.{starts}
 use Rattle.pipe.specs.Input.{sent_bytes, sent_packet}
 use Rattle.rules.specs.declared.Pod.{Pod}
 use Rattle.rules.specs.State.{fresh_pod, store_in, with_tables, desk_in}
-use Rattle.rules.specs.Obey.{shut, checks_of, done_by, obey_of, acknowledged_of}
+use Rattle.rules.specs.Obey.{shut, checks_of, done_by, obey_of}
 use Rattle.rules.specs.Refusals.{done}
 use Rattle.rules.specs.Families.{WordCall, word_of, LoneCall, lone_of}
 use Rattle.rules.specs.Calls.{power_rows, power_call, roomed, replied, packet_heard, reply_bytes, spoken_bytes, written, answered, packet_rows, packet_call, put_rows, shelved, put_call, word_rows, worded, word_call, lone_rows, reach_of, reached, lone_call, samples_rows, framed, samples_call}

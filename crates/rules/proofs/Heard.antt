@@ -5,10 +5,11 @@ use mathlib.Core.Path.{◌≡◌, refl}
 use mathlib.Core.Bool.{Bool, or-true, or-false}
 use lib.Dec.{ltb}
 use lib.ListN.{set}
+use Rattle.std.specs.Prelude.{Option, Some, None}
 use Rattle.rows.proofs.Bool.{split}
 use Rattle.tables.specs.declared.Words.{Words}
 use Rattle.orders.specs.declared.Order.{Order}
-use Rattle.orders.specs.declared.Order.TheVariants.{Other, Stop, Restart, Next, Writing, Reading}
+use Rattle.orders.specs.declared.Order.TheVariants.{Stop, Restart, Next, Writing, Reading}
 use Rattle.tables.specs.declared.Transfer.{Transfer}
 use Rattle.tables.specs.declared.Transfer.TheVariants.{Idle, Address, Load, Read}
 use Rattle.tables.specs.Tables.{Three, read_place}
@@ -27,15 +28,15 @@ leaves : {w : Words} {d : Desk} {t : Three} {h : Heard} → w ≡ h.words → d.
 leaves p l s = record { words = p; load = l; tables = s }
 
 -- a command word, by its order
-ordered : (x : ℕ) (on : Bool) (w : Words) (d : Desk) (o : Order) → order_heard on x ≡ o
+ordered : (x : ℕ) (on : Bool) (w : Words) (d : Desk) (o : Option Order) → order_heard on x ≡ o
     → AsHeard (word_of (command x) on w d).pod (word_of (command x) on w d).lent d.tables (word_heard (command x) on w d.load)
 unfolding word_of word_heard command_of order_obeyed close_of restarted read_opened read_opened_at tables_after
-ordered x on w d Other e = rw (e, or-true (is_open w.transfer), or-true w.error) (leaves refl refl refl)
-ordered x on w d Stop e = rw (e, or-false (is_open w.transfer)) (leaves refl refl refl)
-ordered x on w d Restart e = rw (e, or-false (is_open w.transfer)) (leaves refl refl refl)
-ordered x on w d Next e = rw (e, or-false (is_open w.transfer)) (leaves refl refl refl)
-ordered x on w d (Writing t n) e = rw (e, or-false (is_open w.transfer)) (leaves refl refl refl)
-ordered x on w d (Reading t n) e =
+ordered x on w d None e = rw (e, or-true (is_open w.transfer), or-true w.error) (leaves refl refl refl)
+ordered x on w d (Some Stop) e = rw (e, or-false (is_open w.transfer)) (leaves refl refl refl)
+ordered x on w d (Some Restart) e = rw (e, or-false (is_open w.transfer)) (leaves refl refl refl)
+ordered x on w d (Some Next) e = rw (e, or-false (is_open w.transfer)) (leaves refl refl refl)
+ordered x on w d (Some (Writing t n)) e = rw (e, or-false (is_open w.transfer)) (leaves refl refl refl)
+ordered x on w d (Some (Reading t n)) e =
     split (fits t (begins_at w.given (read_place t w.places)) (n - 3)) (λ f. rw (e, f, or-false (is_open w.transfer)) (leaves refl refl refl))
     (λ f. rw (e, f, or-true (is_open w.transfer), or-true w.error) (leaves refl refl refl))
 

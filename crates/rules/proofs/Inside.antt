@@ -3,6 +3,7 @@
 use native.Mathlib.Omega.{arith}
 use mathlib.Core.Path.{◌≡◌, refl}
 use mathlib.Core.Bool.{Bool, true, false, not, ◌&&◌}
+use Rattle.std.specs.Prelude.{ℕ, Option}
 use Rattle.rows.proofs.Bool.{split, never, and_left, and_right, and_both, or-true, not-true}
 use Rattle.blocks.specs.declared.Store.{Store}
 use Rattle.blocks.specs.declared.Store.TheVariants.{Priority, Ordinary}
@@ -17,7 +18,6 @@ use Rattle.params.proofs.Inside.{start_sound as params-start}
 use Rattle.tables.specs.declared.Transfer.{Transfer}
 use Rattle.tables.specs.declared.Transfer.TheVariants.{Idle, Address, Load, Read as Reads}
 use Rattle.tables.specs.declared.Words.{Words}
-use Rattle.tables.specs.declared.Given.{Given}
 use Rattle.tables.specs.Bounds.{sound_words}
 use Rattle.tables.specs.Port.{is_open, with_given, start_words}
 use Rattle.tables.proofs.Kept.{start_sound as words-start}
@@ -156,7 +156,7 @@ module _ {p : Pod} (h : PodIn p) where
       record { priority = h.priority; ordinary = h.ordinary; params = h.params; fields = h.fields; pipe = h.pipe; words = h.words; rest = rw (none, still) }
 
 -- as from power: initialised or not, with any fields within their bounds and any given address
-pub anew_in : (b : Bool) (f : Fields) (g : Given) → fields_bounded f ≡ true
+pub anew_in : (b : Bool) (f : Fields) (g : Option ℕ) → fields_bounded f ≡ true
     → PodIn (with_words (with_given g fresh_pod.words) (with_fields f (with_initialised b fresh_pod)))
 unfolding fresh_pod restful start_words sound_words
 anew_in b f g k =

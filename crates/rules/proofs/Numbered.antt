@@ -5,7 +5,7 @@ use mathlib.Core.Path.{◌≡◌, refl}
 use mathlib.Core.Bool.{Bool, true, false, not, ◌&&◌, ◌||◌}
 use mathlib.Core.List.{List, [], ◌∷◌}
 use lib.Dec.{leb}
-use Rattle.rows.specs.Rows.{Row, row, First, here, after, Clear, none, past}
+use Rattle.rows.specs.Rows.{Row, First, here, after, Clear, none, past}
 use Rattle.rows.proofs.Bool.{split, never}
 use Rattle.pipe.specs.Output.{busy_of}
 use Rattle.frames.specs.Samples.{bounded_of}

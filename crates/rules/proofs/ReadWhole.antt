@@ -9,16 +9,15 @@ use mathlib.Core.List.{List, [], ◌∷◌, ◌++◌}
 use lib.Dec.{ltb, eqb}
 use lib.ListN.{length}
 use borrow.Author.Tests.{eq-eqb, ne_eqb, ltb-true, ltb-false}
+use Rattle.std.specs.Prelude.{None}
 use Rattle.rows.specs.Rows.{gave}
 use Rattle.rows.proofs.Bool.{split, never, and_left, and_right, not-true}
 use Rattle.tables.specs.declared.Header.{Header}
 use Rattle.tables.specs.declared.Places.{Places}
 use Rattle.tables.specs.declared.Words.{Words}
-use Rattle.tables.specs.declared.Answered.{Answered}
-use Rattle.tables.specs.declared.Given.TheVariants.{Nowhere}
 use Rattle.tables.specs.declared.Transfer.TheVariants.{Idle, Read}
 use Rattle.tables.specs.Tables.{Three, tables_sized, words_of, with_read_place}
-use Rattle.tables.specs.Port.{Desk, with_transfer, with_places, with_given, data_count, close_of, read_opened, read_opened_at, order_obeyed, tables_after, command_of, read_word, read_next, word_given}
+use Rattle.tables.specs.Port.{Answered, Desk, with_transfer, with_places, with_given, data_count, close_of, read_opened, read_opened_at, order_obeyed, tables_after, command_of, read_word, read_next, word_given}
 use Rattle.tables.proofs.Obeying.{given_by}
 use Rattle.tables.proofs.Reading.{read_first, read-second, read-third, read_data}
 use Rattle.rules.specs.State.{sound_pod, desk_in, with_words}
@@ -47,7 +46,7 @@ module _ (h : Header) (at : ℕ) (places : Places) where
     fit : Fit w
     transfer : w.pod.words.transfer ≡ Read h k at
     moved : w.pod.words.places ≡ places
-    given : w.pod.words.given ≡ Nowhere
+    given : w.pod.words.given ≡ None
 
   -- a data word read
   reading : (w : World) (k : ℕ) → Along w k
@@ -58,7 +57,7 @@ module _ (h : Header) (at : ℕ) (places : Places) where
 
   -- so it stands, with other words of the port and the same lent
   stays : (v w : World) (k : ℕ) → Fit w → sound_pod v.pod ≡ true → desk_in v.lent ≡ desk_in w.lent → v.pod.words.transfer ≡ Read h k at
-      → v.pod.words.places ≡ places → v.pod.words.given ≡ Nowhere → Along v k
+      → v.pod.words.places ≡ places → v.pod.words.given ≡ None → Along v k
   stays v w k f s d t p g =
       record {
         fit = record { tables = ap (λ (x : Desk). tables_sized x.tables) d ∙ f.tables; sound = s; load = ap (λ (x : Desk). length x.load) d ∙ f.load };
@@ -132,7 +131,7 @@ module _ (w : World) (x : ℕ) (h : Header) (at : ℕ) (cs : List Call) (r : Rea
 
   -- the port with the read open
   abbrev opened : Words
-  opened = with_given Nowhere (with_places behind (with_transfer (Read h 0 at) (close_of w.pod.words)))
+  opened = with_given None (with_places behind (with_transfer (Read h 0 at) (close_of w.pod.words)))
 
   is_opened : wording (command x) w ≡ stepped (gave done) [] (with_words opened w.pod) w.lent
   unfolding word_of command_of order_obeyed read_opened read_opened_at tables_after close_of

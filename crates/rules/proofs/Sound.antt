@@ -7,7 +7,6 @@ use mathlib.Core.List.{List, [], ◌∷◌}
 use mathlib.Core.Bool.{Bool, true, false, ◌||◌, cond}
 use mathlib.Core.Option.{Option, none as unmoved, some}
 use lib.Dec.{eqb}
-use lib.IntN.{ℤ}
 use Rattle.rows.specs.Rows.{Out, Clear, none, past}
 use Rattle.rows.proofs.Bool.{by-test, and_left, and_right, and_both, not-false}
 use Rattle.blocks.specs.declared.Store.{Store}
@@ -19,9 +18,7 @@ use Rattle.packets.specs.declared.Command.{Command}
 use Rattle.packets.specs.declared.Command.TheVariants as command
 use Rattle.packets.specs.Commands.{fields_bounded}
 use Rattle.packets.proofs.Laws.{Within, bounded_within, within_bounded}
-use Rattle.params.specs.declared.Params.{Params}
-use Rattle.params.specs.Rules.{sound_params, write_allowed, stored, write_of}
-use Rattle.params.proofs.Inside.{write_sound}
+use Rattle.params.proofs.Inside.{stored_sound}
 use Rattle.tables.specs.declared.Words.{Words}
 use Rattle.tables.specs.Port.{Desk}
 use Rattle.tables.specs.Bounds.{sound_words}
@@ -51,18 +48,13 @@ use Rattle.rules.proofs.Inside.{PodIn, in_pod, pod_in, ring_in, off_still, in_sh
 
 -- ---- the commands
 
--- a write that is allowed keeps parameters sound
-pub stored_sound : (q : Params) (id : ℕ) (v : ℤ) → write_allowed q id v ≡ true → sound_params q ≡ true → sound_params (stored q id v) ≡ true
-unfolding write_of
-stored_sound q id v e h = rw e at (write_sound q id v h)
-
 -- a command, an open exchange being closed, that passes its checks
 pub command_in : (c : Command) (l : Lent) (p : Pod) → Clear (checks_of c p) → p.exchange ≡ Closed → PodIn p → PodIn (done_by c l p).pod
 unfolding checks_of done_by initialised_pod sound_words
 command_in (command.Initialise f) l p (past k none) shut h = anew_in true f _ (not-false k)
 command_in command.Status l p (past on none) shut h = in_open h Status (not-false on)
 command_in (command.Update f) l p (past on (past k none)) shut h = in_fields h f (not-false k)
-command_in (command.Write id v) l p (past on (past k none)) shut h = in_params h _ (stored_sound p.params id v (not-false k) h.params)
+command_in (command.Write id v) l p (past on (past k none)) shut h = in_params h _ (stored_sound p.params id v h.params (not-false k))
 command_in (command.Read id) l p (past on k) shut h = in_open h Read (not-false on)
 command_in command.Priority l p (past on k) shut h = in_open h (Receive Priority) (not-false on)
 command_in command.Data l p (past on k) shut h = in_open h (Receive Ordinary) (not-false on)

@@ -5,11 +5,12 @@ use mathlib.Core.Path.{◌≡◌, refl}
 use mathlib.Core.List.{List}
 use lib.Dec.{ltb}
 use lib.ListN.{length, take}
+use Rattle.std.specs.Prelude.{Option, Some, None}
 use Rattle.rows.specs.Rows.{Out, out}
 use Rattle.rows.proofs.Bool.{by-test}
 use Rattle.tables.specs.declared.Words.{Words}
 use Rattle.orders.specs.declared.Order.{Order}
-use Rattle.orders.specs.declared.Order.TheVariants.{Other, Stop, Restart, Next, Writing, Reading}
+use Rattle.orders.specs.declared.Order.TheVariants.{Stop, Restart, Next, Writing, Reading}
 use Rattle.tables.specs.declared.Transfer.{Transfer}
 use Rattle.tables.specs.declared.Transfer.TheVariants.{Idle, Address, Load, Read}
 use Rattle.tables.specs.Tables.{Three}
@@ -37,14 +38,14 @@ pub data SameDesk : Out Giving Words Desk → Out Giving Words Desk → Type 0 w
 NoneCame : Words → Type 0
 NoneCame w = came_of w.transfer ≡ 0
 
-pub obeyed-none : (o : Order) (w : Words) → came_of (order_obeyed o (close_of w)).transfer ≡ 0
+pub obeyed-none : (o : Option Order) (w : Words) → came_of (order_obeyed o (close_of w)).transfer ≡ 0
 unfolding order_obeyed close_of restarted read_opened read_opened_at NoneCame
-obeyed-none Other w = refl
-obeyed-none Stop w = refl
-obeyed-none Restart w = refl
-obeyed-none Next w = refl
-obeyed-none (Writing t n) w = refl
-obeyed-none (Reading t n) w = by-test NoneCame (fits t _ (n - 3)) (λ e. refl) (λ e. refl)
+obeyed-none None w = refl
+obeyed-none (Some Stop) w = refl
+obeyed-none (Some Restart) w = refl
+obeyed-none (Some Next) w = refl
+obeyed-none (Some (Writing t n)) w = refl
+obeyed-none (Some (Reading t n)) w = by-test NoneCame (fits t _ (n - 3)) (λ e. refl) (λ e. refl)
 
 -- nor after a data word read
 pub given-none : (u : Transfer) (w : Words) (t : Three) → came_of (word_given u w t).words.transfer ≡ 0

@@ -1,6 +1,6 @@
 -- Each call is its rows and its effect, over what it is lent. What is given back by value counts as lent: it comes as nothing.
 -- Assumes nothing.
-use Rattle.std.specs.Prelude.{ℕ, List, [], ◌∷◌, ◌++◌, length, replicate}
+use Rattle.std.specs.Prelude.{ℕ, List, [], ◌∷◌, ◌++◌, length, replicate, Result, Ok, Err}
 use Rattle.std.proofs.lemmas.List.Edits.{sets}
 use Rattle.rows.specs.Rows.{Row, Said, refused, gave, Out as Left, out, ran}
 use Rattle.blocks.specs.declared.Store.{Store}
@@ -18,6 +18,7 @@ use Rattle.pipe.specs.Input.{sent_packet}
 use Rattle.frames.specs.declared.Frames.{Frames}
 use Rattle.frames.specs.Layout.{frames_of}
 use Rattle.rules.specs.declared.Pod.{Pod}
+use Rattle.rules.specs.declared.Refusal.{Refusal}
 use Rattle.rules.specs.State.{Lent, store_in, with_exchange, with_words, with_ring, with_pipe, ring_of, fresh_pod}
 use Rattle.rules.specs.Obey.{Meant, success, report, value, block, shut, obey_of, acknowledged_of, report_of}
 use Rattle.rules.specs.Refusals.{Giving, done, bytes, Out, room_row, all_row, store_row, tables_row, state_row, block_row, set_row, over_row, asleep_row, full_row, busy_row, eight_row}
@@ -131,10 +132,20 @@ reached o p = out done (with_pipe o.pod.pipe (with_exchange o.pod.exchange p)) o
 unfoldable pub lone_call : LoneCall → Pod → Out Sent
 lone_call c p = ran (lone_rows c p) p (sent_packet []) (reached (lone_of c (reach_of p)) p)
 
+-- what a result gives of the pipe: refused, nothing
+abbrev pub sent_in : Result Sent Refusal → Sent
+sent_in (Ok s) = s
+sent_in (Err why) = sent_packet []
+
 -- ---- samples: the frames come as zeros
 
 abbrev pub no_frames : Frames
 no_frames = record { an03 = replicate 8 0; an47 = replicate 8 0 }
+
+-- the frames that a result gives: refused, as they came
+abbrev pub framed_in : Result Frames Refusal → Frames
+framed_in (Ok f) = f
+framed_in (Err why) = no_frames
 
 abbrev pub samples_rows : ℕ → List ℕ → Pod → List Row
 samples_rows check xs p = state_row p ∷ set_row xs ∷ over_row check xs ∷ []

@@ -1,6 +1,6 @@
 -- What the owner asked for, said of the rules. Each name is a statement; Whole.antt joins them, and proofs/ has a proof of each.
 -- Assumes nothing.
-use Rattle.std.specs.Prelude.{ℕ, ◌+◌, ◌<◌, ◌≡◌, ◌↔◌, true, false, ◌&&◌, cond, List, [], ◌∷◌, ◌++◌, get_or, replicate, eqb}
+use Rattle.std.specs.Prelude.{ℕ, ◌+◌, ◌<◌, ◌≡◌, ◌↔◌, true, false, ◌&&◌, cond, List, [], ◌∷◌, ◌++◌, get_or, replicate, eqb, None}
 use Rattle.rows.specs.Rows.{First, refused, gave, held}
 use Rattle.blocks.specs.declared.Store.{Store}
 use Rattle.blocks.specs.Stores.{capacity_of, blocks_in}
@@ -12,7 +12,6 @@ use Rattle.packets.specs.Commands.{command_row}
 use Rattle.packets.specs.Reading.{packet_read}
 use Rattle.packets.specs.Answers.{error_answer}
 use Rattle.tables.specs.declared.Header.{Header}
-use Rattle.tables.specs.declared.Given.TheVariants.{Nowhere}
 use Rattle.tables.specs.declared.Transfer.TheVariants.{Idle, Read}
 use Rattle.tables.specs.Tables.{starts, with_read_place}
 use Rattle.tables.specs.Port.{start_words, data_count}
@@ -97,7 +96,7 @@ abbrev pub ReadMoves : Type 0
 ReadMoves =
     (w : World) (x : ℕ) (h : Header) (at : ℕ) (cs : List Call) → Reads w x h at cs
     → ((final w (word (command x) ∷ cs)).pod.words.places ≡ with_read_place h.table (at + data_count h) w.pod.words.places)
-    × ((final w (word (command x) ∷ cs)).pod.words.given ≡ Nowhere)
+    × ((final w (word (command x) ∷ cs)).pod.words.given ≡ None)
 
 -- ".. and no other": the tables after any call, by what it is and told, the open transfer and the order heard
 abbrev pub TablesOnly : Type 0

@@ -4,9 +4,8 @@
 use Rattle.std.specs.Prelude.{ℕ, Bool, List, [], ◌∷◌}
 use Rattle.rows.specs.Rows.{Row, Out, out}
 use Rattle.tables.specs.declared.Words.{Words}
-use Rattle.tables.specs.declared.Answered.{Answered}
 use Rattle.tables.specs.Tables.{Three}
-use Rattle.tables.specs.Port.{Desk, Tabled, tabled, command_of, data_in_of, data_out_of, status_of}
+use Rattle.tables.specs.Port.{Answered, Desk, Tabled, tabled, command_of, data_in_of, data_out_of, status_of}
 use Rattle.pipe.specs.declared.Pipe.{Pipe}
 use Rattle.pipe.specs.declared.Sent.{Sent}
 use Rattle.pipe.specs.declared.Piped.{Piped}

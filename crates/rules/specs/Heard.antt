@@ -1,13 +1,11 @@
 -- What a table word leaves, each part by its own sentence and apart from the rule: by the order heard or the open transfer.
 -- Assumes nothing.
-use Rattle.std.specs.Prelude.{ℕ, ◌+◌, ◌-◌, Bool, true, false, not, ◌&&◌, ◌||◌, cond, List, ltb, set}
+use Rattle.std.specs.Prelude.{ℕ, ◌+◌, ◌-◌, Bool, true, false, not, ◌&&◌, ◌||◌, cond, List, ltb, set, Option, Some, None}
 use Rattle.tables.specs.declared.Header.{Header}
 use Rattle.tables.specs.declared.Words.{Words}
 use Rattle.tables.specs.declared.Places.{Places}
-use Rattle.tables.specs.declared.Given.{Given}
-use Rattle.tables.specs.declared.Given.TheVariants.{Nowhere, At}
 use Rattle.orders.specs.declared.Order.{Order}
-use Rattle.orders.specs.declared.Order.TheVariants.{Other, Stop, Restart, Next, Writing, Reading}
+use Rattle.orders.specs.declared.Order.TheVariants.{Stop, Restart, Next, Writing, Reading}
 use Rattle.tables.specs.declared.Transfer.{Transfer}
 use Rattle.tables.specs.declared.Transfer.TheVariants.{Idle, Address, Load, Read}
 use Rattle.tables.specs.Tables.{Three, starts, words_of, with_table, read_place, with_read_place}
@@ -18,23 +16,23 @@ use Rattle.rules.specs.Families.{WordCall, command, data_in, data_out, status}
 -- ---- the open transfer
 
 -- an order that is not accepted, or a read that would pass its table's end
-abbrev pub not_taken : Order → Words → Bool
-not_taken Other w = true
-not_taken Stop w = false
-not_taken Restart w = false
-not_taken Next w = false
-not_taken (Writing t n) w = false
-not_taken (Reading t n) w = not (fits t (begins_at w.given (read_place t w.places)) (n - 3))
+abbrev pub not_taken : Option Order → Words → Bool
+not_taken None w = true
+not_taken (Some Stop) w = false
+not_taken (Some Restart) w = false
+not_taken (Some Next) w = false
+not_taken (Some (Writing t n)) w = false
+not_taken (Some (Reading t n)) w = not (fits t (begins_at w.given (read_place t w.places)) (n - 3))
 
 -- "every command word closes an open transfer"; an accepted load, read or command 1 then opens its own, no word along
-abbrev pub opens_after : Order → Words → Transfer
-opens_after Other w = Idle
-opens_after Stop w = Idle
-opens_after Restart w = Idle
-opens_after Next w = Address
-opens_after (Writing t n) w = Load (header t n) 0
-opens_after (Reading t n) w =
-    cond (not_taken (Reading t n) w) Idle (Read (header t n) 0 (begins_at w.given (read_place t w.places)))
+abbrev pub opens_after : Option Order → Words → Transfer
+opens_after None w = Idle
+opens_after (Some Stop) w = Idle
+opens_after (Some Restart) w = Idle
+opens_after (Some Next) w = Address
+opens_after (Some (Writing t n)) w = Load (header t n) 0
+opens_after (Some (Reading t n)) w =
+    cond (not_taken (Some (Reading t n)) w) Idle (Read (header t n) 0 (begins_at w.given (read_place t w.places)))
 
 -- a data word goes one word along, its last word closes, and "with no transfer that way" it "closes any other transfer"
 abbrev pub opens_in : Transfer → Transfer
@@ -52,7 +50,7 @@ opens_out (Read h k at) = cond (ltb (k + 1) h.n) (Read h (k + 1) at) Idle
 -- ---- message error
 
 -- a command word: "closing one before its last word sets message error", and so does an order that is not taken
-abbrev pub errs_after : Order → Words → Bool
+abbrev pub errs_after : Option Order → Words → Bool
 errs_after o w = w.error || (is_open w.transfer || not_taken o w)
 
 -- a data word written: "with no transfer that way sets message error"; a load "is judged with its last word"
@@ -71,28 +69,28 @@ errs_out (Read h k at) e = e
 -- ---- the read places, and the given address
 
 -- "An accepted read at once puts that place just behind its last data word"; "read places 0"
-abbrev pub places_after : Order → Words → Places
-places_after Other w = w.places
-places_after Stop w = w.places
-places_after Restart w = record { five = 0; six = 0; seven = 0 }
-places_after Next w = w.places
-places_after (Writing t n) w = w.places
-places_after (Reading t n) w =
-    cond (not_taken (Reading t n) w) w.places (with_read_place t (begins_at w.given (read_place t w.places) + (n - 3)) w.places)
+abbrev pub places_after : Option Order → Words → Places
+places_after None w = w.places
+places_after (Some Stop) w = w.places
+places_after (Some Restart) w = record { five = 0; six = 0; seven = 0 }
+places_after (Some Next) w = w.places
+places_after (Some (Writing t n)) w = w.places
+places_after (Some (Reading t n)) w =
+    cond (not_taken (Some (Reading t n)) w) w.places (with_read_place t (begins_at w.given (read_place t w.places) + (n - 3)) w.places)
 
 -- the given address is "used up by an accepted read"; "no address given"
-abbrev pub given_after : Order → Words → Given
-given_after Other w = w.given
-given_after Stop w = w.given
-given_after Restart w = Nowhere
-given_after Next w = w.given
-given_after (Writing t n) w = w.given
-given_after (Reading t n) w = cond (not_taken (Reading t n) w) w.given Nowhere
+abbrev pub given_after : Option Order → Words → Option ℕ
+given_after None w = w.given
+given_after (Some Stop) w = w.given
+given_after (Some Restart) w = None
+given_after (Some Next) w = w.given
+given_after (Some (Writing t n)) w = w.given
+given_after (Some (Reading t n)) w = cond (not_taken (Some (Reading t n)) w) w.given None
 
 -- command 1's word is the "next read address"
-abbrev pub given_in : Transfer → ℕ → Given → Given
+abbrev pub given_in : Transfer → ℕ → Option ℕ → Option ℕ
 given_in Idle x g = g
-given_in Address x g = At x
+given_in Address x g = Some x
 given_in (Load h k) x g = g
 given_in (Read h k at) x g = g
 
@@ -105,13 +103,13 @@ load_in Address x l = l
 load_in (Load h k) x l = set l k x
 load_in (Read h k at) x l = l
 
-abbrev pub is_restart : Order → Bool
-is_restart Other = false
-is_restart Stop = false
-is_restart Restart = true
-is_restart Next = false
-is_restart (Writing t n) = false
-is_restart (Reading t n) = false
+abbrev pub is_restart : Option Order → Bool
+is_restart None = false
+is_restart (Some Stop) = false
+is_restart (Some Restart) = true
+is_restart (Some Next) = false
+is_restart (Some (Writing t n)) = false
+is_restart (Some (Reading t n)) = false
 
 -- the tables with a load of these words: where every check passes the addressed words of its table are new, else none is
 abbrev pub judged : Header → List ℕ → Three → Three

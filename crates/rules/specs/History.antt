@@ -1,6 +1,6 @@
 -- What a list of calls and answers alone says of the pod: nothing here looks at its state.
 -- Assumes nothing.
-use Rattle.std.specs.Prelude.{ℕ, ◌+◌, ◌-◌, Bool, true, false, ◌&&◌, ◌||◌, cond, List, [], ◌∷◌, ◌++◌, ltb, eqb, ℤ, drop, get_or}
+use Rattle.std.specs.Prelude.{ℕ, ◌-◌, Bool, true, false, ◌&&◌, ◌||◌, cond, List, [], ◌∷◌, ◌++◌, ltb, eqb, ℤ, drop, get_or}
 use Rattle.std.proofs.Math.Option.{Option, none, some}
 use Rattle.rows.specs.Rows.{Said, refused, gave}
 use Rattle.blocks.specs.declared.Store.{Store}

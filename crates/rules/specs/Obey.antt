@@ -1,6 +1,6 @@
 -- What a command and an acknowledgement do to the pod: checks 7 to 9, and no bytes.
 -- Assumes nothing.
-use Rattle.std.specs.Prelude.{ℕ, ◌-◌, Bool, true, false, not, ◌&&◌, ◌||◌, cond, List, [], ◌∷◌, eqb, ℤ}
+use Rattle.std.specs.Prelude.{ℕ, ◌-◌, Bool, true, false, not, ◌&&◌, ◌||◌, cond, List, [], ◌∷◌, eqb, ℤ, Result, Ok, Err}
 use Rattle.rows.specs.Rows.{Row, row, Said, refused, gave, Out, out, ran}
 use Rattle.blocks.specs.declared.Store.{Store}
 use Rattle.blocks.specs.declared.Store.TheVariants.{Priority, Ordinary}
@@ -17,7 +17,9 @@ use Rattle.rules.specs.declared.Exchange.{Exchange}
 use Rattle.rules.specs.declared.Exchange.TheVariants.{Closed, Status, Read, Receive}
 use Rattle.rules.specs.declared.Pod.{Pod}
 use Rattle.rules.specs.declared.Reply.{Reply}
-use Rattle.rules.specs.declared.Reply.TheVariants.{Success, Failure, Report as Reported, Value, Block}
+use Rattle.rules.specs.declared.Reply.TheVariants.{Success, Report as Reported, Value, Block}
+use Rattle.rules.specs.declared.Failure.{Failure}
+use Rattle.rules.specs.declared.Failure.TheVariants.{Asleep, Outside, Nothing, Spent}
 use Rattle.rules.specs.State.{with_initialised, with_fields, with_params, with_exchange, with_words, with_ring, ring_of, remaining_of, with_remaining, fresh_pod, Lent, with_tables}
 
 -- what a command gives that passes its checks: success of type 1; of type 2 what the body shows
@@ -29,13 +31,24 @@ pub data Meant : Type 0 where
   -- the oldest of a store
   block : Store → Meant
 
+-- the error number of each check
+unfoldable pub failure_number : Failure → ℕ
+failure_number Asleep = 0x38
+failure_number Outside = 0x39
+failure_number Nothing = 0x3A
+failure_number Spent = 0x3B
+
+-- what a reply means
+abbrev pub meaning : Reply → Meant
+meaning Success = success
+meaning Reported = report
+meaning (Value id v) = value id v
+meaning (Block s) = block s
+
 -- a reply in document 01's numbers: a failure is its error number
-unfoldable pub reply_said : Reply → Said Meant
-reply_said Success = gave success
-reply_said (Failure n) = refused n
-reply_said Reported = gave report
-reply_said (Value id v) = gave (value id v)
-reply_said (Block s) = gave (block s)
+unfoldable pub reply_said : Result Reply Failure → Said Meant
+reply_said (Ok r) = gave (meaning r)
+reply_said (Err f) = refused (failure_number f)
 
 -- ---- checks 7 to 9, in their order, each with its error number
 

@@ -1,6 +1,6 @@
--- "Refused calls": document 01's numbers and rows, request No. 3's two, and the answers in these numbers.
+-- "Refused calls": document 01's numbers and rows, request No. 3's two, and results in these numbers.
 -- Assumes nothing.
-use Rattle.std.specs.Prelude.{ℕ, not, ◌&&◌, List, ltb, leb, eqb, length}
+use Rattle.std.specs.Prelude.{ℕ, not, ◌&&◌, List, ltb, leb, eqb, length, Result, Ok, Err}
 use Rattle.rows.specs.Rows.{Row, row, Said, refused, gave, Out as Left}
 use Rattle.blocks.specs.declared.Store.{Store}
 use Rattle.blocks.specs.declared.Store.TheVariants.{Priority, Ordinary}
@@ -12,7 +12,7 @@ use Rattle.rules.specs.declared.Pod.{Pod}
 use Rattle.rules.specs.declared.Refusal.{Refusal}
 use Rattle.rules.specs.declared.Refusal.TheVariants.{Room, Size, State, Count, Over, Asleep, Full, Busy, Eight}
 use Rattle.rules.specs.declared.Answer.{Answer}
-use Rattle.rules.specs.declared.Answer.TheVariants.{Refused, Done, Length, Word}
+use Rattle.rules.specs.declared.Answer.TheVariants.{Done, Length, Word}
 use Rattle.rules.specs.State.{Lent, ring_of, sound_pod}
 
 -- ---- what is said
@@ -39,12 +39,20 @@ refusal_number Full = 7
 refusal_number Busy = 21
 refusal_number Eight = 22
 
--- an answer in these numbers
-unfoldable pub answer_said : Answer → Said Giving
-answer_said (Refused r) = refused (refusal_number r)
-answer_said Done = gave done
-answer_said (Length n) = gave (bytes n)
-answer_said (Word w) = gave (reads w)
+-- what a result says: what its value gives, or its refusal's number
+unfoldable pub said : {A : Type 0} → (A → Giving) → Result A Refusal → Said Giving
+said f (Ok x) = gave (f x)
+said f (Err why) = refused (refusal_number why)
+
+-- what an answer gives
+abbrev pub giving : Answer → Giving
+giving Done = done
+giving (Length n) = bytes n
+giving (Word w) = reads w
+
+-- an answer, or a refusal, in these numbers
+abbrev pub answer_said : Result Answer Refusal → Said Giving
+answer_said r = said giving r
 
 -- ---- the rows
 

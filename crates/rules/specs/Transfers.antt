@@ -1,6 +1,6 @@
 -- Loads and reads with the calls that come in between their words, and the tables and message error after any call.
 -- Assumes nothing.
-use Rattle.std.specs.Prelude.{ℕ, ◌+◌, ◌-◌, ◌<◌, ◌≡◌, Bool, true, false, not, ◌&&◌, ◌||◌, cond, List, [], ◌∷◌, ◌++◌, eqb, length, get_or}
+use Rattle.std.specs.Prelude.{ℕ, ◌+◌, ◌-◌, ◌<◌, ◌≡◌, Bool, true, false, not, ◌&&◌, ◌||◌, cond, List, [], ◌∷◌, ◌++◌, eqb, length, get_or, Some}
 use Rattle.std.proofs.lemmas.List.Edits.{sets}
 use Rattle.tables.specs.declared.Header.{Header}
 use Rattle.tables.specs.declared.Words.{Words}
@@ -98,7 +98,7 @@ loaded h xs s w =
 pub record Loads (w : World) (x : ℕ) (h : Header) (cs : List Call) : Type 0 where
   pub fit : Fit w
   pub awake : w.pod.initialised ≡ true
-  pub asked : order_heard true x ≡ Writing h.table h.n
+  pub asked : order_heard true x ≡ Some (Writing h.table h.n)
   pub still : left_open cuts_load (events (opened h w) cs) ≡ true
   pub last : length (written_in cs) + 1 ≡ h.n
 
@@ -130,7 +130,7 @@ read_as (Read h k at) s = word_shown h at s k
 pub record Reads (w : World) (x : ℕ) (h : Header) (at : ℕ) (cs : List Call) : Type 0 where
   pub fit : Fit w
   pub awake : w.pod.initialised ≡ true
-  pub asked : order_heard true x ≡ Reading h.table h.n
+  pub asked : order_heard true x ≡ Some (Reading h.table h.n)
   -- "starting at the given address .., else at that table's read place"
   pub begun : at ≡ begins_at w.pod.words.given (read_place h.table w.pod.words.places)
   -- not "a read that would pass its table's end"

@@ -1,14 +1,18 @@
 // The pod's state, and what its calls answer. What each call means stands in specs/, and so do the owner's demands.
 #![tactic(auto)]
 
+ghost use Rattle.std.specs.Prelude.{◌≡◌};
+ghost use Rattle.rules.specs.Refusals.{refusal_number};
+ghost use Rattle.rules.specs.Obey.{failure_number};
+
 use blocks::{Ring, Store};
-use frames::Frames;
 use packets::Fields;
 use params::Params;
-use pipe::{Pipe, Sent};
+use pipe::Pipe;
 use tables::Words;
 
-// No exchange, or awaiting the acknowledgement of one of the four type 2 commands.
+// No exchange, or awaiting the acknowledgement of one of the four type 2 commands: an enum and no Option, since the rules name the open
+// exchange by its five cases.
 #[derive(Clone, Copy)]
 pub enum Exchange {
     Closed,
@@ -30,7 +34,7 @@ pub struct Pod {
 }
 
 // Why a call is refused: document 01's rows 1 to 7, in their order, and request No. 3's 21 and 22.
-#[derive(Clone, Copy)]
+#[derive(Clone, Copy, Debug, PartialEq, Eq)]
 pub enum Refusal {
     Room,
     Size,
@@ -43,55 +47,63 @@ pub enum Refusal {
     Eight,
 }
 
-// What a call answers, besides bytes that lie in lent memory or stand beside it.
-#[derive(Clone, Copy)]
+// Its number.
+impl From<Refusal> for u8 {
+    ghost from_gives = { λ why n. n ≡ refusal_number why };
+
+    #[tactic(auto, unfolding(crate::specs::Refusals::refusal_number))]
+    fn from(why: Refusal) -> u8 {
+        match why {
+            Refusal::Room => 1,
+            Refusal::Size => 2,
+            Refusal::State => 3,
+            Refusal::Count => 4,
+            Refusal::Over => 5,
+            Refusal::Asleep => 6,
+            Refusal::Full => 7,
+            Refusal::Busy => 21,
+            Refusal::Eight => 22,
+        }
+    }
+}
+
+// What a call answers that is not refused, besides bytes that lie in lent memory or stand beside it.
+#[derive(Clone, Copy, Debug, PartialEq, Eq)]
 pub enum Answer {
-    Refused(Refusal),
     Done,
     Length(usize),
     Word(u16),
 }
 
-// What a command is answered, before it is bytes.
+// What a command is answered that passes its checks, before it is bytes.
 #[derive(Clone, Copy)]
 pub enum Reply {
     Success,
-    Failure(u8),
     Report,
     Value(u8, i32),
     Block(Store),
 }
 
-// A command obeyed: the reply, the next state, and whether the tables go back to their starts.
-#[derive(Clone, Copy)]
-pub struct Obeyed {
-    pub reply: Reply,
-    pub pod: Pod,
-    pub restart: bool,
+// The check of a command that fails: the pod is asleep, a field is outside its bounds, nothing waits, or none of it remains.
+#[derive(Clone, Copy, Debug, PartialEq, Eq)]
+pub enum Failure {
+    Asleep,
+    Outside,
+    Nothing,
+    Spent,
 }
 
-#[derive(Clone, Copy)]
-pub struct Called {
-    pub answer: Answer,
-    pub pod: Pod,
-}
+// Its error number.
+impl From<Failure> for u8 {
+    ghost from_gives = { λ failure n. n ≡ failure_number failure };
 
-// What a table word answers, with the port's next state: all else of the pod is as it came.
-#[derive(Clone, Copy)]
-pub struct Worded {
-    pub answer: Answer,
-    pub words: Words,
-}
-
-#[derive(Clone, Copy)]
-pub struct Framed {
-    pub answer: Answer,
-    pub frames: Frames,
-}
-
-#[derive(Clone, Copy)]
-pub struct Passed {
-    pub answer: Answer,
-    pub sent: Sent,
-    pub pod: Pod,
+    #[tactic(auto, unfolding(crate::specs::Obey::failure_number))]
+    fn from(failure: Failure) -> u8 {
+        match failure {
+            Failure::Asleep => 0x38,
+            Failure::Outside => 0x39,
+            Failure::Nothing => 0x3A,
+            Failure::Spent => 0x3B,
+        }
+    }
 }

@@ -1,65 +1,58 @@
 // Commands and acknowledgements, each built into a room of 0xEE.
 ghost use Rattle.std.specs.Prelude.{◌≤◌};
 
-use crate::print::{letter, put_built, put_byte, put_command, put_form};
-use airframe::{Built, Form};
+use crate::print::{Acknowledged, Built, Carried};
+use airframe::Form;
 use packets::{Command, Fields};
 
+// No closure that builds: the line shows what is built, too.
 #[derive(Clone, Copy)]
 enum Packet {
     Asked(Command),
     Acknowledged(u8, Form),
 }
 
-fn build_into(packet: Packet, room: &mut [u8]) -> Built {
+fn show(rt: &impl Print, packet: Packet, room: &mut [u8]) {
     match packet {
         Packet::Asked(command) => {
-            letter(b'Q');
-            put_command(command);
-            airframe::build(command, room)
+            let built = airframe::build(command, room);
+            let _ = println!(rt; "Q{}{}", Carried(command), Built(built, room));
         }
         Packet::Acknowledged(first, form) => {
-            letter(b'Y');
-            put_byte(first);
-            put_form(form);
-            airframe::acknowledge(first, form, room)
+            let built = airframe::acknowledge(first, form, room);
+            let _ = println!(rt; "Y{}{}", Acknowledged(first, form), Built(built, room));
         }
     }
 }
 
-fn show(packet: Packet, room: &mut [u8]) {
-    let built = build_into(packet, room);
-    put_built(built, room);
-}
-
-fn show_in(packet: Packet, n: usize)
+fn show_in(rt: &impl Print, packet: Packet, n: usize)
     requires { n ≤ 40 }
 {
     let mut room = [0xEEu8; 40];
-    show(packet, &mut room[..n]);
+    show(rt, packet, &mut room[..n])
 }
 
 // Every room up to one more than is asked for, and a larger one.
-fn rooms(packet: Packet) {
+fn rooms(rt: &impl Print, packet: Packet) {
     for n in 0..27usize {
-        show_in(packet, n);
+        show_in(rt, packet, n);
     }
-    show_in(packet, 40);
+    show_in(rt, packet, 40)
 }
 
 // The least room, and one byte less: a field is judged before the room.
-fn both(packet: Packet) {
-    show_in(packet, 25);
-    show_in(packet, 24);
+fn both(rt: &impl Print, packet: Packet) {
+    show_in(rt, packet, 25);
+    show_in(rt, packet, 24)
 }
 
-fn both_of(command: Command) {
-    both(Packet::Asked(command));
+fn both_of(rt: &impl Print, command: Command) {
+    both(rt, Packet::Asked(command))
 }
 
-fn carried(f: Fields) {
-    both_of(Command::Initialise(f));
-    both_of(Command::Update(f));
+fn carried(rt: &impl Print, f: Fields) {
+    both_of(rt, Command::Initialise(f));
+    both_of(rt, Command::Update(f))
 }
 
 // Every field as large as it may be.
@@ -93,108 +86,118 @@ fn least() -> Fields {
 }
 
 // One field outside its bounds, or at them.
-fn fields() {
-    carried(least());
-    carried(largest());
-    let mut f = largest();
-    f.mode = 4;
-    carried(f);
-    f = largest();
-    f.seconds = 0x40_0000;
-    carried(f);
-    f.seconds = 0xFFFF_FFFF;
-    carried(f);
-    f = largest();
-    f.milliseconds = 1000;
-    carried(f);
-    f = largest();
-    f.poll = 60001;
-    carried(f);
-    f.poll = 0;
-    carried(f);
+fn fields(rt: &impl Print) {
+    carried(rt, least());
+    carried(rt, largest());
+    carried(
+        rt,
+        Fields {
+            mode: 4,
+            ..largest()
+        },
+    );
+    for seconds in [0x40_0000, 0xFFFF_FFFF] {
+        carried(
+            rt,
+            Fields {
+                seconds,
+                ..largest()
+            },
+        );
+    }
+    carried(
+        rt,
+        Fields {
+            milliseconds: 1000,
+            ..largest()
+        },
+    );
+    for poll in [60001, 0] {
+        carried(rt, Fields { poll, ..largest() });
+    }
 }
 
 // Each remaining against its limit.
-fn remainings() {
-    let mut f = least();
-    f.priorityremaining = 1;
-    carried(f);
-    f.prioritylimit = 1;
-    carried(f);
-    f = least();
-    f.memoryremaining = 1;
-    carried(f);
-    f.memorylimit = 1;
-    carried(f);
-    f.memorylimit = 0x1_0000;
-    f.memoryremaining = 0x1_0001;
-    carried(f);
+fn remainings(rt: &impl Print) {
+    for prioritylimit in [0, 1] {
+        carried(
+            rt,
+            Fields {
+                prioritylimit,
+                priorityremaining: 1,
+                ..least()
+            },
+        );
+    }
+    for (memorylimit, memoryremaining) in [(0, 1), (1, 1), (0x1_0000, 0x1_0001)] {
+        carried(
+            rt,
+            Fields {
+                memorylimit,
+                memoryremaining,
+                ..least()
+            },
+        );
+    }
 }
 
 // A parameter's values around its row.
-fn row(id: u8, below: i32, least: i32, most: i32, above: i32) {
-    both_of(Command::Write(id, below));
-    both_of(Command::Write(id, least));
-    both_of(Command::Write(id, most));
-    both_of(Command::Write(id, above));
+fn row(rt: &impl Print, id: u8, below: i32, least: i32, most: i32, above: i32) {
+    for value in [below, least, most, above] {
+        both_of(rt, Command::Write(id, value));
+    }
 }
 
-fn parameters() {
-    row(1, -4001, -4000, 15000, 15001);
-    row(2, -4001, -4000, 15000, 15001);
-    row(3, 99, 100, 1000, 1001);
-    row(4, 39, 40, 60000, 60001);
-    row(5, 0, 1, 16, 17);
-    row(6, -4001, -4000, 15000, 15001);
-    row(7, -1, 0, 3, 4);
-    row(8, -1, 0, 7, 8);
+fn parameters(rt: &impl Print) {
+    row(rt, 1, -4001, -4000, 15000, 15001);
+    row(rt, 2, -4001, -4000, 15000, 15001);
+    row(rt, 3, 99, 100, 1000, 1001);
+    row(rt, 4, 39, 40, 60000, 60001);
+    row(rt, 5, 0, 1, 16, 17);
+    row(rt, 6, -4001, -4000, 15000, 15001);
+    row(rt, 7, -1, 0, 3, 4);
+    row(rt, 8, -1, 0, 7, 8);
     for trim in 9..13u8 {
-        row(trim, -501, -500, 500, 501);
+        row(rt, trim, -501, -500, 500, 501);
     }
 }
 
 // Bytes that are ids, and bytes that are none.
-fn ids() {
-    both_of(Command::Write(0, 0));
-    both_of(Command::Write(13, 0));
-    both_of(Command::Write(255, 0));
-    both_of(Command::Read(0));
-    both_of(Command::Read(1));
-    both_of(Command::Read(12));
-    both_of(Command::Read(13));
-    both_of(Command::Read(255));
+fn ids(rt: &impl Print) {
+    for id in [0, 13, 255] {
+        both_of(rt, Command::Write(id, 0));
+    }
+    for id in [0, 1, 12, 13, 255] {
+        both_of(rt, Command::Read(id));
+    }
 }
 
-fn forms(first: u8) {
-    both(Packet::Acknowledged(first, Form::Taken));
-    both(Packet::Acknowledged(first, Form::Failed(0x00)));
-    both(Packet::Acknowledged(first, Form::Failed(0xFF)));
+fn forms(rt: &impl Print, first: u8) {
+    for form in [Form::Taken, Form::Failed(0x00), Form::Failed(0xFF)] {
+        both(rt, Packet::Acknowledged(first, form));
+    }
 }
 
-fn every_room() {
-    rooms(Packet::Asked(Command::Initialise(least())));
-    rooms(Packet::Asked(Command::Status));
-    rooms(Packet::Asked(Command::Update(least())));
-    rooms(Packet::Asked(Command::Write(3, 900)));
-    rooms(Packet::Asked(Command::Read(3)));
-    rooms(Packet::Asked(Command::Priority));
-    rooms(Packet::Asked(Command::Data));
-    rooms(Packet::Asked(Command::Shutdown));
-    rooms(Packet::Acknowledged(0x96, Form::Taken));
-    rooms(Packet::Acknowledged(0x94, Form::Failed(0x01)));
+fn every_room(rt: &impl Print) {
+    rooms(rt, Packet::Asked(Command::Initialise(least())));
+    rooms(rt, Packet::Asked(Command::Status));
+    rooms(rt, Packet::Asked(Command::Update(least())));
+    rooms(rt, Packet::Asked(Command::Write(3, 900)));
+    rooms(rt, Packet::Asked(Command::Read(3)));
+    rooms(rt, Packet::Asked(Command::Priority));
+    rooms(rt, Packet::Asked(Command::Data));
+    rooms(rt, Packet::Asked(Command::Shutdown));
+    rooms(rt, Packet::Acknowledged(0x96, Form::Taken));
+    rooms(rt, Packet::Acknowledged(0x94, Form::Failed(0x01)))
 }
 
-pub fn all() {
-    every_room();
-    fields();
-    remainings();
-    parameters();
-    ids();
-    forms(0x00);
-    forms(0x8F);
-    forms(0x90);
-    forms(0x97);
-    forms(0x9F);
-    forms(0xA0);
-    forms(0xFF);
+pub fn all(rt: &impl Print) {
+    every_room(rt);
+    fields(rt);
+    remainings(rt);
+    parameters(rt);
+    ids(rt);
+    for first in [0x00, 0x8F, 0x90, 0x97, 0x9F, 0xA0, 0xFF] {
+        forms(rt, first);
+    }
 }

@@ -11,8 +11,12 @@ mod print;
 mod reads;
 mod sends;
 
-fn main() {
-    builds::all();
-    reads::all();
-    sends::all();
+fn print_all(rt: &impl Print) {
+    builds::all(rt);
+    reads::all(rt);
+    sends::all(rt)
+}
+
+fn main(rt: HostRuntime) {
+    print_all(&rt);
 }

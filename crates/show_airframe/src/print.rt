@@ -1,213 +1,203 @@
-// What is handed in and what it gives, as text.
-use airframe::{Built, Form, Left, Meaning, Refusal, Reply, Sending, Shown, Step};
+// What is handed in and what it gives, as text. Each begins with a space.
+use airframe::{Form, Heard, Left, Meaning, Refusal, Sending, Step};
 use packets::{Command, Fields};
+use std::fmt;
+use std::fmt::{Display, Formatter};
 
-fn put(text: &[u8]) {
-    io::write_all(1, text);
-}
+// Bytes as pairs of digits.
+#[derive(Clone, Copy)]
+pub struct Pairs<'a>(pub &'a [u8]);
 
-pub fn letter(c: u8) {
-    put(&[c]);
-}
-
-// A sign behind a space.
-pub fn sign(c: u8) {
-    letter(b' ');
-    letter(c);
-}
-
-pub fn put_byte(b: u8) {
-    letter(b' ');
-    put(&hexes::byte(b));
-}
-
-pub fn put_bytes(bytes: &[u8]) {
-    let mut i = 0;
-    while i < bytes.len() {
-        put_byte(bytes[i]);
-        i += 1;
+impl Display for Pairs<'_> {
+    fn fmt<W: fmt::Write>(&self, f: &mut Formatter<W>) -> fmt::Result {
+        for b in self.0 {
+            write!(f, " {b:02X}")?;
+        }
+        Ok(())
     }
-}
-
-pub fn put_number(n: u64) {
-    letter(b' ');
-    io::print_decimal(1, n);
-}
-
-fn put_small(b: u8) {
-    put_number(b as u64);
 }
 
 // Bytes in decimal.
-fn put_numbers(bytes: &[u8]) {
-    let mut i = 0;
-    while i < bytes.len() {
-        put_small(bytes[i]);
-        i += 1;
-    }
-}
+#[derive(Clone, Copy)]
+struct Numbers<'a>(&'a [u8]);
 
-fn put_signed(v: i32) {
-    let u = numbers::unsigned(v) as u64;
-    if u < 0x8000_0000 {
-        return put_number(u);
+impl Display for Numbers<'_> {
+    fn fmt<W: fmt::Write>(&self, f: &mut Formatter<W>) -> fmt::Result {
+        for b in self.0 {
+            write!(f, " {b}")?;
+        }
+        Ok(())
     }
-    sign(b'-');
-    io::print_decimal(1, 0x1_0000_0000 - u);
 }
 
 // How many bytes there are, and where they are many the first three and the last two.
-pub fn put_run(bytes: &[u8]) {
-    sign(b'/');
-    put_number(bytes.len() as u64);
-    sign(b':');
-    if bytes.len() < 24 {
-        return put_bytes(bytes);
+#[derive(Clone, Copy)]
+pub struct Shortened<'a>(pub &'a [u8]);
+
+impl Display for Shortened<'_> {
+    fn fmt<W: fmt::Write>(&self, f: &mut Formatter<W>) -> fmt::Result {
+        let bytes = self.0;
+        let n = bytes.len();
+        write!(f, " / {n} :")?;
+        if n < 24 {
+            return write!(f, "{}", Pairs(bytes));
+        }
+        write!(f, "{} -{}", Pairs(&bytes[..3]), Pairs(&bytes[n - 2..]))
     }
-    let end = bytes.len() - 2;
-    put_bytes(&bytes[..3]);
-    sign(b'-');
-    put_bytes(&bytes[end..]);
 }
 
-fn put_fields(f: Fields) {
-    put_small(f.mode);
-    put_number(f.flags as u64);
-    put_number(f.seconds as u64);
-    put_number(f.milliseconds as u64);
-    put_number(f.prioritylimit as u64);
-    put_number(f.priorityremaining as u64);
-    put_number(f.memorylimit as u64);
-    put_number(f.memoryremaining as u64);
-    put_number(f.poll as u64);
+#[derive(Clone, Copy)]
+struct Listed(Fields);
+
+impl Display for Listed {
+    fn fmt<W: fmt::Write>(&self, f: &mut Formatter<W>) -> fmt::Result {
+        let Fields {
+            mode,
+            flags,
+            seconds,
+            milliseconds,
+            prioritylimit,
+            priorityremaining,
+            memorylimit,
+            memoryremaining,
+            poll,
+        } = self.0;
+        write!(f, " {mode} {flags} {seconds} {milliseconds}")?;
+        write!(f, " {prioritylimit} {priorityremaining}")?;
+        write!(f, " {memorylimit} {memoryremaining} {poll}")
+    }
 }
 
 // A command by its code and what it carries.
-pub fn put_command(command: Command) {
-    match command {
-        Command::Initialise(f) => {
-            put_byte(0x90);
-            put_fields(f);
+#[derive(Clone, Copy)]
+pub struct Carried(pub Command);
+
+impl Display for Carried {
+    fn fmt<W: fmt::Write>(&self, f: &mut Formatter<W>) -> fmt::Result {
+        write!(f, " {:02X}", u8::from(self.0.code()))?;
+        match self.0 {
+            Command::Initialise(fields) | Command::Update(fields) => {
+                write!(f, "{}", Listed(fields))
+            }
+            Command::Write(id, value) => write!(f, " {id} {value}"),
+            Command::Read(id) => write!(f, " {id}"),
+            Command::Status | Command::Priority | Command::Data | Command::Shutdown => Ok(()),
         }
-        Command::Status => put_byte(0x91),
-        Command::Update(f) => {
-            put_byte(0x92);
-            put_fields(f);
-        }
-        Command::Write(id, value) => {
-            put_byte(0x93);
-            put_small(id);
-            put_signed(value);
-        }
-        Command::Read(id) => {
-            put_byte(0x94);
-            put_small(id);
-        }
-        Command::Priority => put_byte(0x95),
-        Command::Data => put_byte(0x96),
-        Command::Shutdown => put_byte(0x9F),
     }
 }
 
-// The error byte of the 0x09 form.
-pub fn put_form(form: Form) {
-    match form {
-        Form::Taken => {}
-        Form::Failed(error) => put_byte(error),
+// An acknowledgement's first byte, and the error byte of the 0x09 form.
+#[derive(Clone, Copy)]
+pub struct Acknowledged(pub u8, pub Form);
+
+impl Display for Acknowledged {
+    fn fmt<W: fmt::Write>(&self, f: &mut Formatter<W>) -> fmt::Result {
+        let Acknowledged(first, form) = *self;
+        match form {
+            Form::Taken => write!(f, " {first:02X}"),
+            Form::Failed(error) => write!(f, " {first:02X} {error:02X}"),
+        }
     }
 }
 
-fn number_of(refusal: Refusal) -> u64 {
-    match refusal {
-        Refusal::Field => 20,
-        Refusal::Wrong => 23,
-        Refusal::Room => 24,
+#[derive(Clone, Copy)]
+struct Refused(Refusal);
+
+impl Display for Refused {
+    fn fmt<W: fmt::Write>(&self, f: &mut Formatter<W>) -> fmt::Result {
+        write!(f, " !{}", u8::from(self.0))
     }
 }
 
-fn put_refusal(refusal: Refusal) {
-    sign(b'!');
-    io::print_decimal(1, number_of(refusal));
-}
+// The room's size, the number of bytes or of the refusal, and the whole room.
+#[derive(Clone, Copy)]
+pub struct Built<'a>(pub Result<usize, Refusal>, pub &'a [u8]);
 
-// The number of bytes or of the refusal, and the whole room.
-pub fn put_built(built: Built, room: &[u8]) {
-    sign(b'/');
-    put_number(room.len() as u64);
-    sign(b'=');
-    match built {
-        Built::Bytes(n) => put_number(n as u64),
-        Built::Refused(refusal) => put_refusal(refusal),
+impl Display for Built<'_> {
+    fn fmt<W: fmt::Write>(&self, f: &mut Formatter<W>) -> fmt::Result {
+        let Built(built, room) = *self;
+        write!(f, " / {} =", room.len())?;
+        match built {
+            Ok(n) => write!(f, " {n}")?,
+            Err(refusal) => write!(f, "{}", Refused(refusal))?,
+        }
+        write!(f, " :{}", Pairs(room))
     }
-    sign(b':');
-    put_bytes(room);
-    letter(b'\n');
-}
-
-fn put_shown(s: Shown, ids: &[u8]) {
-    put(b" status");
-    put_small(s.mode);
-    put_number(s.flags as u64);
-    put_number(s.priority as u64);
-    put_number(s.ordinary as u64);
-    put_small(s.request);
-    put_numbers(ids);
 }
 
 // What an answer means. The ids of a status and the bytes of a block are parts of the answer.
-pub fn put_meaning(meaning: Meaning, answer: &[u8]) {
-    match meaning {
-        Meaning::Unusable => put_refusal(Refusal::Wrong),
-        Meaning::Done => put(b" done"),
-        Meaning::Error(error) => {
-            put(b" error");
-            put_byte(error);
-        }
-        Meaning::State(shown) => put_shown(shown, airframe::ids(answer)),
-        Meaning::Value(id, value) => {
-            put(b" value");
-            put_small(id);
-            put_signed(value);
-        }
-        Meaning::Block => {
-            put(b" data");
-            put_run(airframe::block(answer));
+#[derive(Clone, Copy)]
+pub struct Meant<'a>(pub Result<Meaning, Refusal>, pub &'a [u8]);
+
+impl Display for Meant<'_> {
+    fn fmt<W: fmt::Write>(&self, f: &mut Formatter<W>) -> fmt::Result {
+        let Meant(read, answer) = *self;
+        match read {
+            Err(refusal) => write!(f, "{}", Refused(refusal)),
+            Ok(Meaning::Done) => write!(f, " done"),
+            Ok(Meaning::Error(error)) => write!(f, " error {error:02X}"),
+            Ok(Meaning::State(s)) => {
+                write!(f, " status {} {} {}", s.mode, s.flags, s.priority)?;
+                write!(f, " {} {}", s.ordinary, s.request)?;
+                write!(f, "{}", Numbers(airframe::ids(answer)))
+            }
+            Ok(Meaning::Value(id, value)) => write!(f, " value {id} {value}"),
+            Ok(Meaning::Block) => write!(f, " data{}", Shortened(airframe::block(answer))),
         }
     }
 }
 
-pub fn put_reply(reply: Reply, answer: &[u8]) {
-    match reply {
-        Reply::Unread => {}
-        Reply::Answer(meaning) => put_meaning(meaning, answer),
+#[derive(Clone, Copy)]
+struct Next(Step);
+
+impl Display for Next {
+    fn fmt<W: fmt::Write>(&self, f: &mut Formatter<W>) -> fmt::Result {
+        match self.0 {
+            Step::Idle => write!(f, " idle"),
+            Step::Ended => write!(f, " ended"),
+            Step::Again => write!(f, " again"),
+            Step::Lost => write!(f, " lost"),
+        }
     }
 }
 
-pub fn put_step(step: Step) {
-    match step {
-        Step::Idle => put(b" idle"),
-        Step::Ended => put(b" ended"),
-        Step::Again => put(b" again"),
-        Step::Lost => put(b" lost"),
-    }
-}
+#[derive(Clone, Copy)]
+struct Count(Left);
 
-fn count(left: Left) -> u64 {
-    match left {
-        Left::Nought => 0,
-        Left::One => 1,
-        Left::Two => 2,
-        Left::Three => 3,
+impl Display for Count {
+    fn fmt<W: fmt::Write>(&self, f: &mut Formatter<W>) -> fmt::Result {
+        match self.0 {
+            Left::Nought => write!(f, " 0"),
+            Left::One => write!(f, " 1"),
+            Left::Two => write!(f, " 2"),
+            Left::Three => write!(f, " 3"),
+        }
     }
 }
 
 // What is on its way, and how often it may still be sent.
-pub fn put_sending(sending: Sending) {
-    match sending {
-        Sending::Over => sign(b'-'),
-        Sending::Awaiting(code, left) => {
-            put_byte(code);
-            put_number(count(left));
+#[derive(Clone, Copy)]
+pub struct OnItsWay(pub Sending);
+
+impl Display for OnItsWay {
+    fn fmt<W: fmt::Write>(&self, f: &mut Formatter<W>) -> fmt::Result {
+        match self.0 {
+            Sending::Over => write!(f, " -"),
+            Sending::Awaiting(code, left) => write!(f, " {code:02X}{}", Count(left)),
         }
+    }
+}
+
+// What an answer was read as, where one came, what is next, and what is then on its way.
+#[derive(Clone, Copy)]
+pub struct After<'a>(pub Heard, pub &'a [u8]);
+
+impl Display for After<'_> {
+    fn fmt<W: fmt::Write>(&self, f: &mut Formatter<W>) -> fmt::Result {
+        let After(heard, answer) = *self;
+        if let Some(read) = heard.reply {
+            write!(f, "{}", Meant(read, answer))?;
+        }
+        write!(f, "{} ;{}", Next(heard.step), OnItsWay(heard.sending))
     }
 }

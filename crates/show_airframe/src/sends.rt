@@ -1,55 +1,88 @@
 // Runs of sending: what came, what it was read as, what is next, and what is left on its way.
-use crate::print::{letter, put_bytes, put_reply, put_sending, put_step, sign};
-use airframe::{Heard, Sending};
+use crate::print::{After, OnItsWay, Pairs};
+use airframe::Sending;
 
-fn show(heard: Heard, answer: &[u8]) -> Sending {
-    let reply = heard.reply;
-    let step = heard.step;
-    let sending = heard.sending;
-    sign(b'=');
-    put_reply(reply, answer);
-    put_step(step);
-    sign(b';');
-    put_sending(sending);
-    letter(b'\n');
-    sending
+#[derive(Clone, Copy)]
+enum Came {
+    Silence,
+    Done,
+    Wrong,
+    Error(u8),
 }
 
-// What comes, by a byte: 0 is no reply, 0x7E done, 0x7F a wrong answer, and any other an error.
-fn came(sending: Sending, code: u8, third: u8) -> Sending {
-    letter(b'P');
-    if third == 0 {
-        sign(b'-');
-        return show(sending.silence(), b"");
+use Came::{Done, Error, Silence, Wrong};
+
+fn answered(rt: &impl Print, sending: Sending, head: [u8; 3]) -> Sending {
+    let [code, second, third] = head;
+    let [high, low] = crc::crc_of(&head).to_be_bytes();
+    let answer = [code, second, third, high, low];
+    let heard = sending.reply(&answer);
+    let _ = println!(rt; "P{} ={}", Pairs(&answer), After(heard, &answer));
+    heard.sending
+}
+
+fn go_on(rt: &impl Print, sending: Sending, code: u8, what: Came) -> Sending {
+    match what {
+        Silence => {
+            let heard = sending.silence();
+            let _ = println!(rt; "P - ={}", After(heard, b""));
+            heard.sending
+        }
+        Done => answered(rt, sending, [code, 0x01, 0x7E]),
+        Wrong => answered(rt, sending, [code, 0x01, 0x7F]),
+        Error(error) => answered(rt, sending, [code, 0x09, error]),
     }
-    let second = if third < 0x7E { 0x09 } else { 0x01 };
-    let mut a = [code, second, third, 0, 0];
-    let crc = crc::crc_of(&a[..3]);
-    numbers::put_two(&mut a, 3, crc);
-    put_bytes(&a);
-    show(sending.reply(&a), &a)
 }
 
-fn run(code: u8, a: u8, b: u8, c: u8, d: u8, e: u8, f: u8) {
+fn run(rt: &impl Print, code: u8, each: [Came; 6]) {
     let mut sending = Sending::sent(code);
-    letter(b'S');
-    put_sending(sending);
-    letter(b'\n');
-    sending = came(sending, code, a);
-    sending = came(sending, code, b);
-    sending = came(sending, code, c);
-    sending = came(sending, code, d);
-    sending = came(sending, code, e);
-    sending = came(sending, code, f);
+    let _ = println!(rt; "S{}", OnItsWay(sending));
+    for what in each {
+        sending = go_on(rt, sending, code, what);
+    }
 }
 
-pub fn all() {
-    run(0x90, 0x7E, 0x00, 0x01, 0x7F, 0x38, 0x7E);
-    run(0x9F, 0x00, 0x00, 0x00, 0x00, 0x00, 0x7E);
-    run(0x90, 0x01, 0x01, 0x01, 0x01, 0x01, 0x7E);
-    run(0x93, 0x7F, 0x7F, 0x7F, 0x7F, 0x7F, 0x7E);
-    run(0x9F, 0x00, 0x01, 0x7F, 0x7E, 0x00, 0x7E);
-    run(0x92, 0x7F, 0x01, 0x00, 0x01, 0x38, 0x00);
-    run(0x96, 0x01, 0x00, 0x7E, 0x38, 0x7E, 0x00);
-    run(0x97, 0x7E, 0x00, 0x38, 0x7E, 0x7E, 0x00);
+pub fn all(rt: &impl Print) {
+    run(
+        rt,
+        0x90,
+        [Done, Silence, Error(0x01), Wrong, Error(0x38), Done],
+    );
+    run(
+        rt,
+        0x9F,
+        [Silence, Silence, Silence, Silence, Silence, Done],
+    );
+    run(
+        rt,
+        0x90,
+        [
+            Error(0x01),
+            Error(0x01),
+            Error(0x01),
+            Error(0x01),
+            Error(0x01),
+            Done,
+        ],
+    );
+    run(rt, 0x93, [Wrong, Wrong, Wrong, Wrong, Wrong, Done]);
+    run(rt, 0x9F, [Silence, Error(0x01), Wrong, Done, Silence, Done]);
+    run(
+        rt,
+        0x92,
+        [
+            Wrong,
+            Error(0x01),
+            Silence,
+            Error(0x01),
+            Error(0x38),
+            Silence,
+        ],
+    );
+    run(
+        rt,
+        0x96,
+        [Error(0x01), Silence, Done, Error(0x38), Done, Silence],
+    );
+    run(rt, 0x97, [Done, Silence, Error(0x38), Done, Done, Silence])
 }

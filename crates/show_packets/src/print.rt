@@ -1,117 +1,110 @@
 // Packets, fields and answers as lines of text.
 use packets::{Command, Fields, Parsed};
+use std::fmt::{Display, Formatter};
+use std::{fmt, io};
 
-fn put(text: &[u8]) {
-    io::write_all(1, text);
-}
+// Bytes as pairs of digits, a space before each.
+#[derive(Clone, Copy)]
+struct Pairs<'a>(&'a [u8]);
 
-fn put_byte(b: u8) {
-    put(b" ");
-    put(&hexes::byte(b));
-}
-
-fn put_bytes(bytes: &[u8]) {
-    let mut i = 0;
-    while i < bytes.len() {
-        put_byte(bytes[i]);
-        i += 1;
+impl Display for Pairs<'_> {
+    fn fmt<W: fmt::Write>(&self, f: &mut Formatter<W>) -> fmt::Result {
+        for b in self.0 {
+            write!(f, " {b:02X}")?;
+        }
+        Ok(())
     }
 }
 
-fn put_number(n: u64) {
-    put(b" ");
-    io::print_decimal(1, n);
+// The nine fields, and whether they are in bounds.
+#[derive(Clone, Copy)]
+struct Listed(Fields);
+
+impl Display for Listed {
+    fn fmt<W: fmt::Write>(&self, f: &mut Formatter<W>) -> fmt::Result {
+        let Fields {
+            mode,
+            flags,
+            seconds,
+            milliseconds,
+            prioritylimit,
+            priorityremaining,
+            memorylimit,
+            memoryremaining,
+            poll,
+        } = self.0;
+        write!(f, " {mode} {flags} {seconds} {milliseconds}")?;
+        write!(f, " {prioritylimit} {priorityremaining}")?;
+        write!(f, " {memorylimit} {memoryremaining} {poll}")?;
+        if packets::bounded(self.0) {
+            write!(f, " in bounds")
+        } else {
+            write!(f, " out of bounds")
+        }
+    }
 }
 
 // A parameter's value as an answer shows it, and its sign.
-fn put_value(id: u8, v: i32) {
-    let mut room = [0u8; 260];
-    packets::write_value(&mut room, 0x94, id, v);
-    put_bytes(&room[2..7]);
-    if v < 0 {
-        put(b" below 0");
+#[derive(Clone, Copy)]
+struct Value(u8, i32);
+
+impl Display for Value {
+    fn fmt<W: fmt::Write>(&self, f: &mut Formatter<W>) -> fmt::Result {
+        let Value(id, v) = *self;
+        let mut room = [0u8; 9];
+        packets::write_value(&mut room, 0x94, id, v);
+        write!(f, "{}", Pairs(&room[2..7]))?;
+        if v < 0 {
+            write!(f, " below 0")?;
+        }
+        Ok(())
     }
 }
 
-fn put_fields(f: Fields) {
-    put_number(f.mode as u64);
-    put_number(f.flags as u64);
-    put_number(f.seconds as u64);
-    put_number(f.milliseconds as u64);
-    put_number(f.prioritylimit as u64);
-    put_number(f.priorityremaining as u64);
-    put_number(f.memorylimit as u64);
-    put_number(f.memoryremaining as u64);
-    put_number(f.poll as u64);
-    if packets::bounded(f) {
-        put(b" in bounds");
-    } else {
-        put(b" out of bounds");
+#[derive(Clone, Copy)]
+struct Named(Command);
+
+impl Display for Named {
+    fn fmt<W: fmt::Write>(&self, f: &mut Formatter<W>) -> fmt::Result {
+        match self.0 {
+            Command::Initialise(fields) => write!(f, "initialise{}", Listed(fields)),
+            Command::Status => write!(f, "status"),
+            Command::Update(fields) => write!(f, "update{}", Listed(fields)),
+            Command::Write(id, v) => write!(f, "write{}", Value(id, v)),
+            Command::Read(id) => write!(f, "read {id:02X}"),
+            Command::Priority => write!(f, "priority"),
+            Command::Data => write!(f, "data"),
+            Command::Shutdown => write!(f, "shutdown"),
+        }
     }
 }
 
-fn put_command(c: Command) {
-    match c {
-        Command::Initialise(f) => {
-            put(b" initialise");
-            put_fields(f);
+#[derive(Clone, Copy)]
+struct Meaning(Parsed);
+
+impl Display for Meaning {
+    fn fmt<W: fmt::Write>(&self, f: &mut Formatter<W>) -> fmt::Result {
+        match self.0 {
+            Parsed::Nothing => write!(f, "nothing"),
+            Parsed::Error(first, number) => write!(f, "error {first:02X} {number:02X}"),
+            Parsed::Acknowledgement(first, true) => write!(f, "acknowledgement {first:02X} 01"),
+            Parsed::Acknowledgement(first, false) => write!(f, "acknowledgement {first:02X} 09"),
+            Parsed::Asked(command) => write!(f, "{}", Named(command)),
         }
-        Command::Status => put(b" status"),
-        Command::Update(f) => {
-            put(b" update");
-            put_fields(f);
-        }
-        Command::Write(id, v) => {
-            put(b" write");
-            put_value(id, v);
-        }
-        Command::Read(id) => {
-            put(b" read");
-            put_byte(id);
-        }
-        Command::Priority => put(b" priority"),
-        Command::Data => put(b" data"),
-        Command::Shutdown => put(b" shutdown"),
     }
 }
 
+// A line that could not be written has nowhere to be told: the next one is tried all the same.
 // A packet and what it is read as.
-pub fn show(packet: &[u8]) {
-    put(b"P");
-    put_bytes(packet);
-    put(b" =");
-    match packets::read(packet) {
-        Parsed::Nothing => put(b" nothing"),
-        Parsed::Error(first, number) => {
-            put(b" error");
-            put_byte(first);
-            put_byte(number);
-        }
-        Parsed::Acknowledgement(first, one) => {
-            put(b" acknowledgement");
-            put_byte(first);
-            if one {
-                put(b" 01");
-            } else {
-                put(b" 09");
-            }
-        }
-        Parsed::Asked(c) => put_command(c),
-    }
-    put(b"\n");
+pub fn show(rt: &impl Print, packet: &[u8]) {
+    let _ = println!(rt; "P{} = {}", Pairs(packet), Meaning(packets::read(packet)));
 }
 
-pub fn line_of(f: Fields) {
-    put(b"fields");
-    put_fields(f);
-    put(b"\n");
+pub fn line_of(rt: &impl Print, f: Fields) {
+    let _ = println!(rt; "fields{}", Listed(f));
 }
 
 // An answer's length, and the room, of which the rest is kept.
-pub fn answer(n: usize, room: &[u8]) {
-    put(b"answer");
-    put_number(n as u64);
-    put(b" :");
-    put_bytes(room);
-    put(b"\n");
+pub fn answer(rt: &impl Print, n: usize, room: &[u8]) {
+    let _ = println!(rt; "answer {n} :{}", Pairs(room));
 }

@@ -3,7 +3,7 @@ use mathlib.Core.Path.{◌≡◌, refl}
 use mathlib.Core.Bool.{false}
 use Prim.Native.Nat.{ℕ}
 use Rattle.tables.specs.declared.Words.{Words}
-use Rattle.orders.specs.declared.Order.TheVariants.{Other}
+use Rattle.std.specs.Prelude.{None}
 use Rattle.tables.specs.declared.Transfer.TheVariants.{Idle}
 use Rattle.tables.specs.Tables.{Three}
 use Rattle.orders.specs.Command.{order_heard}
@@ -23,7 +23,7 @@ wrong_idle w = refl
 -- a command word while not initialised closes what is open, sets message error, and does no more, whatever it says
 pub off-command : (word : ℕ) (s : Tabled) → command_of false word s ≡ tabled (wrong_way s.words) s.desk
 unfolding order_heard order_obeyed tables_after close_of wrong_way
-off-command word s = obeyed Other false word s refl
+off-command word s = obeyed None false word s refl
 
 -- a data word written with nothing open sets message error and does no more
 pub idle_in : (x : ℕ) (s : Tabled) → s.words.transfer ≡ Idle → data_in_of x s ≡ tabled (wrong_way s.words) s.desk

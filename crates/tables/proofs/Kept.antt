@@ -4,20 +4,21 @@ use mathlib.Core.Bool.{Bool, true, not}
 use Prim.Native.Nat.{ℕ, ◌+◌, ◌≤◌}
 use native.Mathlib.Omega.{arith}
 use borrow.Author.Tests.{leb-true, ltb-true}
-use lib.Dec.{ltb, eqb}
+use lib.Dec.{ltb}
 use lib.ListN.{set}
 use Rattle.orders.specs.declared.Table.{Table}
 use Rattle.orders.specs.declared.Table.TheVariants.{Five, Six, Seven}
 use Rattle.tables.specs.declared.Header.{Header}
 use Rattle.tables.specs.declared.Places.{Places}
 use Rattle.tables.specs.declared.Words.{Words}
+use Rattle.std.specs.Prelude.{Option, Some, None, option_map}
 use Rattle.orders.specs.declared.Parts.{Parts}
 use Rattle.orders.specs.declared.Order.{Order}
-use Rattle.orders.specs.declared.Order.TheVariants.{Other, Stop, Restart, Next, Writing, Reading}
+use Rattle.orders.specs.declared.Order.TheVariants.{Stop, Restart, Next, Writing, Reading}
 use Rattle.tables.specs.declared.Transfer.{Transfer}
 use Rattle.tables.specs.declared.Transfer.TheVariants.{Idle, Address, Load, Read}
 use Rattle.tables.specs.Tables.{Three, table_size, with_read_place}
-use Rattle.orders.specs.Command.{length_allowed, writes, transfer_asked, parts_of, order_of, order_heard}
+use Rattle.orders.specs.Command.{length_allowed, writes, transfer_asked, table_numbered, parts_of, order_of, order_heard}
 use Rattle.tables.specs.Port.{Tabled, header, data_count, fits, start_words, close_of, wrong_way, read_opened_at, read_opened, restarted, order_obeyed, command_of, load_right, load_judged, load_of, word_taken, data_in_of, read_next, word_given, data_out_of}
 use Rattle.tables.specs.Bounds.{sound_places, sound_transfer, sound_words}
 use Rattle.rows.proofs.Bool.{by-test}
@@ -27,16 +28,20 @@ use Rattle.tables.proofs.Limits.{sound_places_lem, sound_transfer_lem, both_soun
 -- ---- orders
 
 -- an order to load or read has its N 4 to 64
-abbrev Able : Order → Type 0
-Able Other = Unit {0}
-Able Stop = Unit {0}
-Able Restart = Unit {0}
-Able Next = Unit {0}
-Able (Writing t n) = length_allowed n ≡ true
-Able (Reading t n) = length_allowed n ≡ true
+abbrev Able : Option Order → Type 0
+Able None = Unit {0}
+Able (Some Stop) = Unit {0}
+Able (Some Restart) = Unit {0}
+Able (Some Next) = Unit {0}
+Able (Some (Writing t n)) = length_allowed n ≡ true
+Able (Some (Reading t n)) = length_allowed n ≡ true
 
-asked_able : (t : Table) (p : Parts) → length_allowed p.n ≡ true → Able (transfer_asked t p)
-asked_able t p h = by-test Able p.reads (λ e. h) (λ e. h)
+asked_able : (t : Table) (p : Parts) → length_allowed p.n ≡ true → Able (Some (transfer_asked t p))
+asked_able t p h = by-test (λ (o : Order). Able (Some o)) p.reads (λ e. h) (λ e. h)
+
+table_able : (p : Parts) → length_allowed p.n ≡ true → (o : Option Table) → Able (option_map (λ (t : Table). transfer_asked t p) o)
+table_able p h None = tt
+table_able p h (Some t) = asked_able t p h
 
 order_able : (p : Parts) → Able (order_of p)
 unfolding order_of
@@ -46,9 +51,7 @@ order_able p =
     (λ f. by-test Able (writes p 0 1) (λ g. tt)
     (λ g. by-test Able (writes p 1 1) (λ h. tt)
     (λ h. by-test Able (length_allowed p.n)
-    (λ a. by-test Able (eqb p.command 5) (λ x. asked_able Five p a)
-    (λ x. by-test Able (eqb p.command 6) (λ y. asked_able Six p a)
-    (λ y. by-test Able (eqb p.command 7) (λ z. asked_able Seven p a) (λ z. tt))))
+    (λ a. table_able p a (table_numbered p.command))
     (λ a. tt)))))
 
 heard_able : (on : Bool) (word : ℕ) → Able (order_heard on word)
@@ -94,14 +97,14 @@ read_sound h at w a s =
     (in_read h 0 at (record { load = begun h a; end = end })))
     (λ e. both_sound _ (sound_places_lem w s) (sound_transfer_lem w s))
 
-obeyed_sound : (o : Order) (w : Words) → Able o → sound_words w ≡ true → sound_words (order_obeyed o w) ≡ true
+obeyed_sound : (o : Option Order) (w : Words) → Able o → sound_words w ≡ true → sound_words (order_obeyed o w) ≡ true
 unfolding order_obeyed read_opened restarted sound_transfer sound_places
-obeyed_sound Other w a s = both_sound _ (sound_places_lem w s) (sound_transfer_lem w s)
-obeyed_sound Stop w a s = s
-obeyed_sound Restart w a s = both_sound _ refl (sound_transfer_lem w s)
-obeyed_sound Next w a s = both_sound _ (sound_places_lem w s) refl
-obeyed_sound (Writing t n) w a s = both_sound _ (sound_places_lem w s) (in_load (header t n) 0 (begun (header t n) a))
-obeyed_sound (Reading t n) w a s = read_sound (header t n) _ w a s
+obeyed_sound None w a s = both_sound _ (sound_places_lem w s) (sound_transfer_lem w s)
+obeyed_sound (Some Stop) w a s = s
+obeyed_sound (Some Restart) w a s = both_sound _ refl (sound_transfer_lem w s)
+obeyed_sound (Some Next) w a s = both_sound _ (sound_places_lem w s) refl
+obeyed_sound (Some (Writing t n)) w a s = both_sound _ (sound_places_lem w s) (in_load (header t n) 0 (begun (header t n) a))
+obeyed_sound (Some (Reading t n)) w a s = read_sound (header t n) _ w a s
 
 pub command_sound : (on : Bool) (word : ℕ) (s : Tabled) → sound_words s.words ≡ true → sound_words (command_of on word s).words ≡ true
 unfolding command_of

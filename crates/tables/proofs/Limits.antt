@@ -84,3 +84,14 @@ pub in_read : (h : Header) (k at : ℕ) → ReadIn h k at → sound_transfer (Re
 unfolding sound_transfer
 in_read h k at b =
     and_both (has_allowed h.n b.load.allowed) (and_both (lt-ltb _ _ b.load.along) (le-leb _ _ b.end))
+
+-- the same of an open transfer in a state within its bounds
+pub load_open : (w : Words) (h : Header) (k : ℕ) → sound_words w ≡ true → w.transfer ≡ Load h k → (h.n ≤ 64) × (k < h.n)
+load_open w h k s e =
+    let b = load_in_lem h k (rw e at (sound_transfer_lem w s)) in
+    (b.allowed.most, b.along)
+
+pub read_open : (w : Words) (h : Header) (k at : ℕ) → sound_words w ≡ true → w.transfer ≡ Read h k at → (k < h.n) × (at + data_count h ≤ table_size h.table)
+read_open w h k at s e =
+    let b = read_in_lem h k at (rw e at (sound_transfer_lem w s)) in
+    (b.load.along, b.end)

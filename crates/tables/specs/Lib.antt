@@ -1,3 +1,4 @@
 pub mod Tables
 pub mod Port
 pub mod Bounds
+pub mod Lent

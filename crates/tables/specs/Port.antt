@@ -1,17 +1,14 @@
 -- What each call of the table port does to its state, to the three tables and to the words of an open load.
-use Rattle.std.specs.Prelude.{ℕ, ◌+◌, ◌-◌, Bool, true, false, ◌&&◌, ◌||◌, cond, List, ◌∷◌, get_or, set, take, drop, ltb, leb, eqb}
+use Rattle.std.specs.Prelude.{ℕ, ◌+◌, ◌-◌, Bool, true, false, ◌&&◌, ◌||◌, cond, Option, Some, None, List, ◌∷◌, get_or, set, take, drop, ltb, leb, eqb}
 use Rattle.std.proofs.lemmas.List.Edits.{sets}
 use Rattle.orders.specs.declared.Table.{Table}
 use Rattle.tables.specs.declared.Header.{Header}
 use Rattle.tables.specs.declared.Places.{Places}
 use Rattle.tables.specs.declared.Words.{Words}
-use Rattle.tables.specs.declared.Answered.{Answered}
-use Rattle.tables.specs.declared.Given.{Given}
-use Rattle.tables.specs.declared.Given.TheVariants.{Nowhere, At}
 use Rattle.tables.specs.declared.Transfer.{Transfer}
 use Rattle.tables.specs.declared.Transfer.TheVariants.{Idle, Address, Load, Read}
 use Rattle.orders.specs.declared.Order.{Order}
-use Rattle.orders.specs.declared.Order.TheVariants.{Other, Stop, Restart, Next, Writing, Reading}
+use Rattle.orders.specs.declared.Order.TheVariants.{Stop, Restart, Next, Writing, Reading}
 use Rattle.tables.specs.Tables.{table_size, Three, starts, words_of, with_table, read_place, with_read_place}
 use Rattle.orders.specs.Command.{table_number, order_heard}
 
@@ -26,7 +23,7 @@ with_transfer t w = record { error = w.error; transfer = t; places = w.places; g
 abbrev pub with_places : Places → Words → Words
 with_places p w = record { error = w.error; transfer = w.transfer; places = p; given = w.given }
 
-abbrev pub with_given : Given → Words → Words
+abbrev pub with_given : Option ℕ → Words → Words
 with_given g w = record { error = w.error; transfer = w.transfer; places = w.places; given = g }
 
 -- what is lent: the three tables, and the words of an open load as far as it has come
@@ -53,7 +50,7 @@ no_places = record { five = 0; six = 0; seven = 0 }
 
 -- fresh from power: no message error, no transfer, read places 0, no address given
 unfoldable pub start_words : Words
-start_words = record { error = false; transfer = Idle; places = no_places; given = Nowhere }
+start_words = record { error = false; transfer = Idle; places = no_places; given = None }
 
 -- ---- closing
 
@@ -91,16 +88,16 @@ abbrev pub fits : Table → ℕ → ℕ → Bool
 fits t at count = leb (at + count) (table_size t)
 
 -- a read starts at the given address, else at that table's read place
-abbrev pub begins_at : Given → ℕ → ℕ
-begins_at Nowhere place = place
-begins_at (At a) place = a
+abbrev pub begins_at : Option ℕ → ℕ → ℕ
+begins_at None place = place
+begins_at (Some a) place = a
 
 -- an accepted read at once puts the place just behind its last data word, and uses the address up; one that would pass its
 -- table's end sets message error
 unfoldable pub read_opened_at : Header → ℕ → Words → Words
 read_opened_at h at w =
     cond (fits h.table at (data_count h))
-    (with_given Nowhere (with_places (with_read_place h.table (at + data_count h) w.places) (with_transfer (Read h 0 at) w)))
+    (with_given None (with_places (with_read_place h.table (at + data_count h) w.places) (with_transfer (Read h 0 at) w)))
     (erred w)
 
 -- a read of a table by its command word
@@ -109,25 +106,25 @@ read_opened h w = read_opened_at h (begins_at w.given (read_place h.table w.plac
 
 -- command 0, N 1: read places 0, no address given (and the tables to their starts)
 unfoldable pub restarted : Words → Words
-restarted w = with_given Nowhere (with_places no_places w)
+restarted w = with_given None (with_places no_places w)
 
 -- what a command word does to the state, any open transfer being closed
-unfoldable pub order_obeyed : Order → Words → Words
-order_obeyed Other w = erred w
-order_obeyed Stop w = w
-order_obeyed Restart w = restarted w
-order_obeyed Next w = with_transfer Address w
-order_obeyed (Writing t n) w = with_transfer (Load (header t n) 0) w
-order_obeyed (Reading t n) w = read_opened (header t n) w
+unfoldable pub order_obeyed : Option Order → Words → Words
+order_obeyed None w = erred w
+order_obeyed (Some Stop) w = w
+order_obeyed (Some Restart) w = restarted w
+order_obeyed (Some Next) w = with_transfer Address w
+order_obeyed (Some (Writing t n)) w = with_transfer (Load (header t n) 0) w
+order_obeyed (Some (Reading t n)) w = read_opened (header t n) w
 
 -- and to the tables
-unfoldable pub tables_after : Order → Three → Three
-tables_after Other s = s
-tables_after Stop s = s
-tables_after Restart s = starts
-tables_after Next s = s
-tables_after (Writing t n) s = s
-tables_after (Reading t n) s = s
+unfoldable pub tables_after : Option Order → Three → Three
+tables_after None s = s
+tables_after (Some Stop) s = s
+tables_after (Some Restart) s = starts
+tables_after (Some Next) s = s
+tables_after (Some (Writing t n)) s = s
+tables_after (Some (Reading t n)) s = s
 
 -- every command word closes an open transfer first; a Bool says whether the pod is initialised
 unfoldable pub command_of : Bool → ℕ → Tabled → Tabled
@@ -166,7 +163,7 @@ load_of h k x s =
 -- by the open transfer: the word after command 1 is the next read address
 unfoldable pub word_taken : Transfer → ℕ → Tabled → Tabled
 word_taken Idle x s = tabled (wrong_way s.words) s.desk
-word_taken Address x s = tabled (with_given (At x) (with_transfer Idle s.words)) s.desk
+word_taken Address x s = tabled (with_given (Some x) (with_transfer Idle s.words)) s.desk
 word_taken (Load h k) x s = load_of h k x s
 word_taken (Read h k at) x s = tabled (wrong_way s.words) s.desk
 
@@ -177,6 +174,10 @@ data_in_of x s = word_taken s.words.transfer x s
 -- ---- a data word read
 
 -- a word that is read, and the next state
+pub record Answered : Type 0 where
+  pub word : ℕ
+  pub words : Words
+
 abbrev pub answer : ℕ → Words → Answered
 answer x w = record { word = x; words = w }
 

@@ -13,65 +13,42 @@ use orders::allowed;
 pub fn idle(t: Transfer) -> bool
     ensures { result ≡ not (is_open t) }
 {
-    match t {
-        Transfer::Idle => true,
-        Transfer::Address => false,
-        Transfer::Load { header: _, k: _ } => false,
-        Transfer::Read {
-            header: _,
-            k: _,
-            start: _,
-        } => false,
-    }
+    matches!(t, Transfer::Idle)
 }
 
 // Whether a load or a read of an allowed length is not at its end.
 fn along(h: Header, k: u8) -> bool
     ensures { result ≡ (length_allowed h.n && ltb k h.n) }
 {
-    if !allowed(h.n as u16) {
-        return false;
-    }
-    k < h.n
+    allowed(u16::from(h.n)) && k < h.n
 }
 
+#[tactic(auto, unfolding(crate::specs::Bounds::sound_transfer))]
 fn transfer_sound(t: Transfer) -> bool
     ensures { result ≡ sound_transfer t }
 {
     match t {
-        Transfer::Idle => true,
-        Transfer::Address => true,
+        Transfer::Idle | Transfer::Address => true,
         Transfer::Load { header, k } => along(header, k),
         Transfer::Read { header, k, start } => {
-            if !along(header, k) {
-                return false;
-            }
-            within(header, start as u16)
+            along(header, k) && within(header, u16::from(start))
         }
     }
 }
 
 // Whether the state is within its bounds.
-pub fn sound(w: Words) -> bool
-    ensures { result ≡ sound_words w }
+#[tactic(auto, unfolding(crate::specs::Bounds::sound_words, crate::specs::Bounds::sound_places))]
+pub fn sound(w: &Words) -> bool
+    ensures { result ≡ sound_words w.now }
 {
     let places = w.places;
-    let transfer = w.transfer;
-    if 64 < places.five {
-        return false;
-    }
-    if 128 < places.six {
-        return false;
-    }
-    if 64 < places.seven {
-        return false;
-    }
-    transfer_sound(transfer)
+    places.five <= 64 && places.six <= 128 && places.seven <= 64 && transfer_sound(w.transfer)
 }
 
-// Whether the tables have their exact sizes.
+// Whether the tables have their exact sizes. Slices, since the pod's calls are lent tables of any length, and row 2 refuses the others.
+#[tactic(auto, unfolding(crate::specs::Tables::tables_sized))]
 pub fn sized(five: &[u16], six: &[u16], seven: &[u16]) -> bool
     ensures { result ≡ tables_sized (three five.now six.now seven.now) }
 {
-    (five.len() == 64) & ((six.len() == 128) & (seven.len() == 64))
+    five.len() == 64 && six.len() == 128 && seven.len() == 64
 }

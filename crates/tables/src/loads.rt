@@ -1,84 +1,74 @@
 // Loads: the words gather, and with the last one the run is stored, or nothing is.
-ghost use Rattle.std.specs.Prelude.{◌≡◌, true, ◌+◌, ◌<◌, ◌≤◌, length, take, drop};
+ghost use Rattle.std.specs.Prelude.{◌≡◌, true, ◌+◌, ◌<◌, ◌≤◌, length};
 ghost use Rattle.std.proofs.lemmas.List.Edits.{sets};
-ghost use Rattle.tables.specs.Tables.{three, words_of, with_table};
+ghost use Rattle.tables.specs.Tables.{words_of, with_table};
+ghost use Rattle.tables.specs.Lent.{held, SameTables};
 ghost use Rattle.tables.specs.Port.{desk, tabled, load_right, stored_in, load_judged, load_of};
 
-use crate::changes::{with_error, with_transfer};
 use crate::sizes::{data_count, number, within};
-use crate::{Header, Table, Transfer, Words};
+use crate::{Header, Table, Tables, Transfer, Words};
+use numbers::copy;
 
-// Whether a load's words are right.
-fn right(h: Header, words: [u16; 64]) -> bool
-    ensures { result ≡ load_right h words }
+// Whether a load's words are right. The bounds on `h.n` and `k` below are clauses: `sound_transfer` judges them, no type (src/lib.rt).
+#[tactic(auto, unfolding(crate::specs::Port::load_right))]
+fn right(h: Header, words: &[u16; 64]) -> bool
+    ensures { result ≡ load_right h words.now }
 {
-    let table = h.table;
-    (words[0] == number(table)) & ((words[2] == data_count(h) as u16) & within(h, words[1]))
+    words[0] == number(h.table) && words[2] == u16::from(data_count(h)) && within(h, words[1])
 }
 
-// The words from word 4 on, `count` of them, stored from `at` on.
-fn put_run(at: usize, count: usize, words: [u16; 64], table: &mut [u16])
-    requires { (at + count ≤ length table.old) × (3 + count ≤ 64) }
-    ensures { table.new ≡ sets table.old at (take count (drop 3 words)) }
-{
-    for j in 0..count {
-        table[at + j] = words[3 + j];
-    }
-}
-
-// A right load's run, stored in its table.
-fn store(h: Header, words: [u16; 64], five: &mut [u16], six: &mut [u16], seven: &mut [u16])
-    requires { (length five.old ≡ 64) × (length six.old ≡ 128) × (length seven.old ≡ 64) × (h.n ≤ 64) × (load_right h words ≡ true) }
-    ensures { three five.new six.new seven.new ≡ with_table h.table (stored_in h words (words_of h.table (three five.old six.old seven.old))) (three five.old six.old seven.old) }
-{
-    let at = words[1] as usize;
-    let count = data_count(h) as usize;
-    let table = h.table;
-    match table {
-        Table::Five => put_run(at, count, words, five),
-        Table::Six => put_run(at, count, words, six),
-        Table::Seven => put_run(at, count, words, seven),
+impl Tables<'_> {
+    // A right load's run, stored in its table: an arm for each, since they are arrays of two lengths.
+    #[tactic(auto, using(crate::proofs::Loading::right_within), unfolding(crate::specs::Port::stored_in))]
+    fn store(&mut self, h: Header, words: &[u16; 64])
+        requires { (h.n ≤ 64) × (load_right h words.now ≡ true) }
+        ensures same { SameTables self.old self.new }
+        ensures stored { held self.new ≡ with_table h.table (stored_in h words.now (words_of h.table (held self.old))) (held self.old) }
+    {
+        let at = usize::from(words[1]);
+        let run = &words[3..3 + usize::from(data_count(h))];
+        match h.table {
+            Table::Five => copy(self.five, at, run),
+            Table::Six => copy(self.six, at, run),
+            Table::Seven => copy(self.seven, at, run),
+        }
     }
 }
 
 // A load at its last word, all its words gathered and the transfer closed.
-fn last_word(
-    w: Words,
-    h: Header,
-    words: [u16; 64],
-    five: &mut [u16],
-    six: &mut [u16],
-    seven: &mut [u16],
-) -> Words
-    requires { (length five.old ≡ 64) × (length six.old ≡ 128) × (length seven.old ≡ 64) × (h.n ≤ 64) }
-    ensures { tabled result (desk (three five.new six.new seven.new) words) ≡ load_judged h words w (three five.old six.old seven.old) }
+#[tactic(auto, unfolding(crate::specs::Port::load_judged))]
+fn last_word(w: &mut Words, h: Header, words: &[u16; 64], tables: &mut Tables)
+    requires { h.n ≤ 64 }
+    ensures same { SameTables tables.old tables.new }
+    ensures does { tabled w.new (desk (held tables.new) words.now) ≡ load_judged h words.now w.old (held tables.old) }
 {
-    if !right(h, words) {
-        return with_error(w, true);
+    if right(h, words) {
+        tables.store(h, words);
+    } else {
+        w.error = true;
     }
-    store(h, words, five, six, seven);
-    w
 }
 
 // Word k of a load.
+#[tactic(auto, unfolding(crate::specs::Port::load_of))]
 pub fn load_word(
-    w: Words,
-    h: Header,
+    w: &mut Words,
+    header: Header,
     k: u8,
     x: u16,
     load: &mut [u16; 64],
-    five: &mut [u16],
-    six: &mut [u16],
-    seven: &mut [u16],
-) -> Words
-    requires { (length five.old ≡ 64) × (length six.old ≡ 128) × (length seven.old ≡ 64) × (h.n ≤ 64) × (k < h.n) }
-    ensures { tabled result (desk (three five.new six.new seven.new) load.new) ≡ load_of h k x (tabled w (desk (three five.old six.old seven.old) load.old)) }
+    tables: &mut Tables,
+)
+    requires { (header.n ≤ 64) × (k < header.n) }
+    ensures same { SameTables tables.old tables.new }
+    ensures does { tabled w.new (desk (held tables.new) load.new) ≡ load_of header k x (tabled w.old (desk (held tables.old) load.old)) }
 {
-    load[k as usize] = x;
+    load[usize::from(k)] = x;
     let next = k + 1;
-    if next < h.n {
-        return with_transfer(w, Transfer::Load { header: h, k: next });
+    if next < header.n {
+        w.transfer = Transfer::Load { header, k: next };
+        return;
     }
-    let words = *load;
-    last_word(with_transfer(w, Transfer::Idle), h, words, five, six, seven)
+    w.transfer = Transfer::Idle;
+    last_word(w, header, load, tables);
 }

@@ -1,78 +1,83 @@
 // Reads: where one starts, its words, and what it moves.
 ghost use Rattle.std.specs.Prelude.{◌≡◌, ◌+◌, ◌<◌, ◌≤◌, length};
-ghost use Rattle.tables.specs.Tables.{table_size, three, words_of};
-ghost use Rattle.tables.specs.Port.{data_count, begins_at, read_opened_at, read_opened, read_word, read_next};
+ghost use Rattle.tables.specs.Tables.{table_size, three, words_of, read_place, with_read_place};
+ghost use Rattle.tables.specs.Port.{data_count, read_opened, read_word, read_next};
 
-use crate::changes::{place, with_error, with_place};
 use crate::sizes::{data_count, number, within};
-use crate::{Given, Header, Table, Transfer, Words};
+use crate::{Header, Places, Table, Transfer, Words};
 
-fn begins_at(given: Given, place: u8) -> u16
-    ensures { result ≡ begins_at given place }
-{
-    match given {
-        Given::Nowhere => place as u16,
-        Given::At(address) => address,
+impl Places {
+    fn of(self, table: Table) -> u8
+        ensures { result ≡ read_place table self }
+    {
+        match table {
+            Table::Five => self.five,
+            Table::Six => self.six,
+            Table::Seven => self.seven,
+        }
+    }
+
+    fn set(&mut self, table: Table, to: u8)
+        ensures { self.new ≡ with_read_place table to self.old }
+    {
+        match table {
+            Table::Five => self.five = to,
+            Table::Six => self.six = to,
+            Table::Seven => self.seven = to,
+        }
     }
 }
 
-// A read from `at`: open, with its place and the given address moved at once; or message error.
-fn read_at(w: Words, h: Header, at: u16) -> Words
-    ensures { result ≡ read_opened_at h at w }
+// A read from the given address, else from its table's place: open, with its place and the given address moved at once;
+// or message error.
+#[tactic(auto, using(crate::proofs::Reading::size_most), unfolding(crate::specs::Port::read_opened, crate::specs::Port::read_opened_at))]
+pub fn read(w: &mut Words, header: Header)
+    ensures { w.new ≡ read_opened header w.old }
 {
-    if !within(h, at) {
-        return with_error(w, true);
+    let place = w.places.of(header.table);
+    let at = w.given.unwrap_or(u16::from(place));
+    if !within(header, at) {
+        w.error = true;
+        return;
     }
     let start = at as u8;
-    let table = h.table;
-    let places = with_place(w.places, table, start + data_count(h));
-    Words {
-        error: w.error,
-        transfer: Transfer::Read {
-            header: h,
-            k: 0,
-            start,
-        },
-        places,
-        given: Given::Nowhere,
-    }
+    w.transfer = Transfer::Read {
+        header,
+        k: 0,
+        start,
+    };
+    w.places.set(header.table, start + data_count(header));
+    w.given = None;
 }
 
-pub fn read(w: Words, h: Header) -> Words
-    ensures { result ≡ read_opened h w }
-{
-    let given = w.given;
-    let places = w.places;
-    let table = h.table;
-    read_at(w, h, begins_at(given, place(places, table)))
-}
-
-// Word k of a read: the header, then the table.
+// Word k of a read: the header, then the table. The bounds on `k` here and below are clauses: `sound_transfer` judges them, no type
+// (src/lib.rt).
+#[tactic(auto, using(crate::proofs::Reading::read_data), unfolding(crate::specs::Port::read_word))]
 fn read_word(h: Header, k: u8, at: u8, from: &[u16]) -> u16
     requires { (k < h.n) × (at + data_count h ≤ length from.now) }
     ensures { result ≡ read_word h at from.now k }
 {
-    if k == 0 {
-        let table = h.table;
-        return number(table);
+    match k {
+        0 => number(h.table),
+        1 => u16::from(at),
+        2 => u16::from(data_count(h)),
+        _ => from[usize::from(at) + usize::from(k - 3)],
     }
-    if k == 1 {
-        return at as u16;
-    }
-    if k == 2 {
-        return data_count(h) as u16;
-    }
-    from[at as usize + (k - 3) as usize]
 }
 
-// Word k of a read of whichever table.
-pub fn word_of(h: Header, k: u8, start: u8, five: &[u16], six: &[u16], seven: &[u16]) -> u16
-    requires five_len { (length five.now ≡ 64) × (length six.now ≡ 128) × (length seven.now ≡ 64) }
-    requires k_lt_n { (k < h.n) × (start + data_count h ≤ table_size h.table) }
+// Word k of a read of whichever table: an arm for each, since they are arrays of two lengths. Lent one by one, as to `data_out`.
+pub fn word_of(
+    h: Header,
+    k: u8,
+    start: u8,
+    five: &[u16; 64],
+    six: &[u16; 128],
+    seven: &[u16; 64],
+) -> u16
+    requires { (k < h.n) × (start + data_count h ≤ table_size h.table) }
     ensures { result ≡ read_word h start (words_of h.table (three five.now six.now seven.now)) k }
 {
-    let table = h.table;
-    match table {
+    match h.table {
         Table::Five => read_word(h, k, start, five),
         Table::Six => read_word(h, k, start, six),
         Table::Seven => read_word(h, k, start, seven),
@@ -80,14 +85,15 @@ pub fn word_of(h: Header, k: u8, start: u8, five: &[u16], six: &[u16], seven: &[
 }
 
 // After its last word a read is closed.
-pub fn next_read(h: Header, k: u8, start: u8) -> Transfer
-    requires { k < h.n }
-    ensures { result ≡ read_next h k start }
+#[tactic(auto, unfolding(crate::specs::Port::read_next))]
+pub fn next_read(header: Header, k: u8, start: u8) -> Transfer
+    requires { k < header.n }
+    ensures { result ≡ read_next header k start }
 {
     let next = k + 1;
-    if next < h.n {
+    if next < header.n {
         Transfer::Read {
-            header: h,
+            header,
             k: next,
             start,
         }

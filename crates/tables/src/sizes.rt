@@ -6,7 +6,8 @@ ghost use Rattle.tables.specs.Port.{data_count, fits};
 
 use crate::{Header, Table};
 
-// In words.
+// In words. Each size and each number is that of its definition, a line for a table: no shorter as one function. No `From`: `Table` is of
+// `orders`.
 pub fn size(table: Table) -> u32
     ensures { result ≡ table_size table }
 {
@@ -31,13 +32,12 @@ pub fn number(table: Table) -> u16
 pub fn data_count(h: Header) -> u8
     ensures { result ≡ data_count h }
 {
-    if h.n < 3 { 0 } else { h.n - 3 }
+    h.n.saturating_sub(3)
 }
 
 // Whether the data words of a transfer, from `at` on, lie within its table.
 pub fn within(h: Header, at: u16) -> bool
     ensures { result ≡ fits h.table at (data_count h) }
 {
-    let table = h.table;
-    at as u32 + data_count(h) as u32 <= size(table)
+    u32::from(at) + u32::from(data_count(h)) <= size(h.table)
 }

@@ -1,46 +1,33 @@
 // What the port starts with: the state, and the three tables.
-ghost use Rattle.std.specs.Prelude.{◌≡◌, ℕ, ◌*◌, ◌≤◌, length};
-ghost use Rattle.tables.specs.Tables.{three, starts, listed};
+ghost use Rattle.std.specs.Prelude.{◌≡◌};
+ghost use Rattle.tables.specs.Tables.{starts};
+ghost use Rattle.tables.specs.Lent.{held, SameTables};
 ghost use Rattle.tables.specs.Port.{start_words};
 
-use crate::{Given, Places, Transfer, Words};
+use crate::{Places, Tables, Transfer, Words};
+use std::array;
 
 // The state as from power.
+#[tactic(auto, unfolding(crate::specs::Port::start_words))]
 pub fn start_words() -> Words
     ensures { result ≡ start_words }
 {
     Words {
         error: false,
         transfer: Transfer::Idle,
-        places: Places {
-            five: 0,
-            six: 0,
-            seven: 0,
-        },
-        given: Given::Nowhere,
+        places: Places::default(),
+        given: None,
     }
 }
 
-// Word i of the table becomes `step` times i.
-fn fill(step: u16, table: &mut [u16])
-    requires { (length table.old ≤ 128) × (step ≤ 256) }
-    ensures { table.new ≡ listed (λ (i : ℕ). step * i) (length table.old) }
-{
-    let mut i: usize = 0;
-    let mut word: u16 = 0;
-    while i < table.len() {
-        table[i] = word;
-        word += step;
-        i += 1;
+impl Tables<'_> {
+    // All three tables to their starts.
+    pub fn restart(&mut self)
+        ensures same { SameTables self.old self.new }
+        ensures started { held self.new ≡ starts }
+    {
+        *self.five = [0; 64];
+        *self.six = [0; 128];
+        *self.seven = array::from_fn(|i| 256 * i as u16);
     }
-}
-
-// All three tables to their starts.
-pub fn to_starts(five: &mut [u16], six: &mut [u16], seven: &mut [u16])
-    requires { (length five.old ≡ 64) × (length six.old ≡ 128) × (length seven.old ≡ 64) }
-    ensures { three five.new six.new seven.new ≡ starts }
-{
-    fill(0, five);
-    fill(0, six);
-    fill(256, seven);
 }

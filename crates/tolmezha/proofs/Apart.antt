@@ -7,9 +7,9 @@ use borrow.Author.Tests.{lt-ltb}
 use lib.Dec.{eqb}
 use lib.IntN.{ℤ, pos, negsuc}
 use lib.Signed.{mag}
+use Rattle.std.specs.Prelude.{Result, Ok, Err}
+use Rattle.airframe.specs.declared.Refusal.{Refusal}
 use Rattle.airframe.specs.declared.Refusal.TheVariants.{Field, Wrong, Room}
-use Rattle.airframe.specs.declared.Built.{Built}
-use Rattle.airframe.specs.declared.Built.TheVariants.{Bytes, Refused}
 use Rattle.airframe.specs.declared.Left.{Left}
 use Rattle.airframe.specs.declared.Left.TheVariants.{Nought, One, Two, Three}
 use Rattle.airframe.specs.declared.Sending.TheVariants.{Awaiting}
@@ -18,16 +18,16 @@ use Rattle.airframe.specs.declared.Step.TheVariants.{Idle, Ended, Again, Lost}
 use Rattle.airframe.specs.Building.{refusal_number, built_said}
 use Rattle.tolmezha.specs.Numbers.{answered, state_of, sending_in, step_of}
 
-abbrev built_by : ℤ → Built
-built_by (pos n) = Bytes n
-built_by (negsuc n) = Refused (cond (eqb n 19) Field (cond (eqb n 22) Wrong Room))
+abbrev built_by : ℤ → Result ℕ Refusal
+built_by (pos n) = Ok n
+built_by (negsuc n) = Err (cond (eqb n 19) Field (cond (eqb n 22) Wrong Room))
 
-built_back : (r : Built) → built_by (answered (built_said r)) ≡ r
+built_back : (r : Result ℕ Refusal) → built_by (answered (built_said r)) ≡ r
 unfolding built_said refusal_number
-built_back (Bytes n) = refl
-built_back (Refused Field) = refl
-built_back (Refused Wrong) = refl
-built_back (Refused Room) = refl
+built_back (Ok n) = refl
+built_back (Err Field) = refl
+built_back (Err Wrong) = refl
+built_back (Err Room) = refl
 
 abbrev step_by : ℤ → Step
 step_by z = cond (eqb (mag z) 0) Idle (cond (eqb (mag z) 1) Ended (cond (eqb (mag z) 2) Again Lost))
@@ -45,7 +45,7 @@ state_back code One h = rw (lt-ltb code (2 ^ 8) h)
 state_back code Two h = rw (lt-ltb code (2 ^ 8) h)
 state_back code Three h = rw (lt-ltb code (2 ^ 8) h)
 
-pub built_apart : (r s : Built) → answered (built_said r) ≡ answered (built_said s) → r ≡ s
+pub built_apart : (r s : Result ℕ Refusal) → answered (built_said r) ≡ answered (built_said s) → r ≡ s
 built_apart r s e = sym (built_back r) ∙ ap built_by e ∙ built_back s
 
 pub steps_apart : (r s : Step) → step_of r ≡ step_of s → r ≡ s

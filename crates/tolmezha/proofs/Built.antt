@@ -2,27 +2,25 @@
 -- Assumes nothing.
 use Prim.Native.Nat.{ℕ, ◌<◌, ◌≤◌}
 use native.Mathlib.Omega.{arith}
-use mathlib.Core.Path.{◌≡◌, refl, sym, ap, ◌∙◌}
-use mathlib.Core.Bool.{Bool, true, false, ◌&&◌, and-false, cond}
+use mathlib.Core.Path.{◌≡◌, ap, ◌∙◌}
+use mathlib.Core.Bool.{Bool, true, false, ◌&&◌, not, and-false}
 use mathlib.Core.List.{List}
 use borrow.Author.Tests.{lt-leb}
 use lib.Dec.{ltb, leb}
 use lib.IntN.{ℤ, negsuc}
 use lib.ListN.{length}
-use Rattle.rows.specs.Rows.{Said, gave, Out, out, ran}
+use Rattle.rows.specs.Rows.{here, Said, gave, Out, out, ran}
 use Rattle.rows.proofs.Laws.{gave_not}
 use Rattle.rows.proofs.Bool.{split}
 use Rattle.packets.specs.declared.Fields.{Fields}
 use Rattle.packets.specs.declared.Command.{Command}
-use Rattle.packets.specs.declared.Command.TheVariants.{Initialise, Update}
-use Rattle.airframe.specs.declared.Given.TheVariants.{Inside, Outside}
-use Rattle.airframe.specs.declared.Built.{Built}
+use Rattle.std.specs.Prelude.{Some, None, Result, Ok, Err, IfOk}
+use Rattle.airframe.specs.declared.Refusal.{Refusal}
 use Rattle.airframe.specs.declared.Form.{Form}
-use Rattle.airframe.specs.Building.{command_wide, first_fits, build_of, built_said}
+use Rattle.airframe.specs.Building.{first_fits, build_of, built_said}
 use Rattle.airframe.specs.Given.{fields_nine, fields_typed, command_typed, given_in}
 use Rattle.airframe.proofs.Lent as lent
-use Rattle.airframe.proofs.Typed.{outside, typed_wide}
-use Rattle.tolmezha.specs.Counts.{Few}
+use Rattle.airframe.proofs.Typed.{outside}
 use Rattle.tolmezha.specs.Numbers.{answered, numbered, command_answered, form_wide, acknowledgement_answered}
 
 abbrev Outcome : Type 0
@@ -42,17 +40,21 @@ module _ (inside : Bool) (bytes room : List ℕ) where
       (λ l. let same : n ≡ length bytes = gave_same (rw (t, l) at e) in omega arith))
       (λ f. absurd (gave_not (rw f at e)))
 
-  module _ (r : Built) (room' : List ℕ) (b : out (built_said r) tt room' ≡ build_of inside bytes room) where
-    pub few_built : length bytes ≤ 25 → Few r
-    unfolding built_said
-    few_built few n e = said_few few n (sym (ap built_said e) ∙ ap (λ (o : Outcome). o.said) b)
+  few_said : length bytes ≤ 25 → (r : Result ℕ Refusal) → built_said r ≡ (build_of inside bytes room).said → IfOk r (λ n. n ≤ 25)
+  unfolding built_said
+  few_said few (Ok n) e = said_few few n e
+  few_said few (Err why) e = tt
+
+  module _ (r : Result ℕ Refusal) (room' : List ℕ) (b : out (built_said r) tt room' ≡ build_of inside bytes room) where
+    pub few_built : length bytes ≤ 25 → IfOk r (λ n. n ≤ 25)
+    few_built few = few_said few r (ap (λ (o : Outcome). o.said) b)
 
     pub as_number : (z : ℤ) → z ≡ answered (built_said r) → out z tt room' ≡ numbered (build_of inside bytes room)
     as_number z e = ap (λ (y : ℤ). out y tt room') e ∙ ap numbered b
 
   -- 20
   refused_number : inside ≡ false → out (negsuc 19) tt room ≡ numbered (build_of inside bytes room)
-  refused_number e = ap numbered (lent.outside inside bytes room e)
+  refused_number e = ap numbered (lent.shut inside bytes room (here (ap not e)))
 
 pub command-outside : (c : Command) (room : List ℕ) → command_typed c ≡ false → out (negsuc 19) tt room ≡ command_answered c room
 unfolding command_answered
@@ -70,34 +72,15 @@ acknowledgement-outside f form room e = refused_number _ _ room e
 
 -- ---- nine numbers
 
-abbrev pub with_fields : Bool → Fields → Command
-with_fields initialises f = cond initialises (Initialise f) (Update f)
-
-fields_typed_lem : (i : Bool) (f : Fields) → command_typed (with_fields i f) ≡ fields_typed f
-unfolding command_typed
-fields_typed_lem true f = refl
-fields_typed_lem false f = refl
-
-given-apart : {f : Fields} → Inside f ≡ Outside → ⊥
-given-apart e = let z : ◌≡◌ {A = ℕ} 0 1 = cc in omega arith
-
-inside_same : {f g : Fields} → Inside f ≡ Inside g → f ≡ g
-inside_same e = cc
-
 module _ (n : List ℕ) where
-  pub given_inside : (f : Fields) → Inside f ≡ given_in n → (fields_typed f ≡ true) × (f ≡ fields_nine n)
+  -- none: they are outside
+  pub given_none : None ≡ given_in n → fields_typed (fields_nine n) ≡ false
   unfolding given_in
-  given_inside f e =
+  given_none e = split (fields_typed (fields_nine n)) (λ t. let z = rw t at e in cc) (λ no. no)
+
+  pub given_some : (f : Fields) → Some f ≡ given_in n → (fields_typed f ≡ true) × (f ≡ fields_nine n)
+  unfolding given_in
+  given_some f e =
       split (fields_typed (fields_nine n))
-      (λ t. let same : f ≡ fields_nine n = inside_same (rw t at e) in (ap (λ (g : Fields). fields_typed g) same ∙ t, same))
-      (λ no. absurd (given-apart (rw no at e)))
-
-  pub given-outside : Outside ≡ given_in n → fields_typed (fields_nine n) ≡ false
-  unfolding given_in
-  given-outside e = split (fields_typed (fields_nine n)) (λ t. absurd (given-apart (sym (rw t at e)))) (λ no. no)
-
-pub fields_wide_lem : (i : Bool) (f : Fields) → fields_typed f ≡ true → command_wide (with_fields i f) ≡ true
-fields_wide_lem i f h = typed_wide (with_fields i f) (fields_typed_lem i f ∙ h)
-
-pub fields-outside : (i : Bool) (f : Fields) (room : List ℕ) → fields_typed f ≡ false → out (negsuc 19) tt room ≡ command_answered (with_fields i f) room
-fields-outside i f room h = command-outside (with_fields i f) room (fields_typed_lem i f ∙ h)
+      (λ t. let z = rw t at e in let same : f ≡ fields_nine n = cc in (ap (λ (g : Fields). fields_typed g) same ∙ t, same))
+      (λ no. let z = rw no at e in cc)

@@ -6,7 +6,7 @@ use native.Mathlib.Nat.{zero-add}
 use mathlib.Core.Path.{◌≡◌, refl, ap, ◌∙◌}
 use mathlib.Core.Bool.{true, false}
 use mathlib.Core.List.{List, [], ◌∷◌, ◌++◌, map, append-nil}
-use mathlib.Core.Option.{some}
+use Rattle.std.specs.Prelude.{Some}
 use borrow.Author.Tests.{eqb-true, eqb-false}
 use lib.Dec.{eqb}
 use lib.IntN.{ℤ, pos}
@@ -89,7 +89,7 @@ over : {n : ℕ} → 4 + 1 ≤ n → n ≤ 4 → ⊥
 over h k = omega arith
 
 module _ (code sends : ℕ) (a : List ℕ) (small : code < 2 ^ 8) (some_left : 1 ≤ sends) (four : sends ≤ 4) where
-  heard : (heard_of (sending_in (code ∷ sends ∷ [])) (answer a)).meant ≡ some (read_as code a)
+  heard : (heard_of (sending_in (code ∷ sends ∷ [])) (answer a)).meant ≡ Some (read_as code a)
   heard =
       split (eqb sends 1) (λ e. rw (eqb-true sends 1 e, state_back code Nought small) (read-beside.an_answer code Nought a))
       (λ n. split (eqb sends 2) (λ e. rw (eqb-true sends 2 e, state_back code One small) (read-beside.an_answer code One a))

@@ -5,7 +5,7 @@ use mathlib.Core.Path.{◌≡◌, sym, ap, ◌∙◌}
 use mathlib.Core.Bool.{cond}
 use mathlib.Core.List.{List}
 use lib.IntN.{ℤ}
-use mathlib.Core.Option.{Option}
+use Rattle.std.specs.Prelude.{Option}
 use Rattle.rows.specs.Rows.{Said, Out, out}
 use Rattle.airframe.specs.declared.Heard.{Heard}
 use Rattle.airframe.specs.declared.Sending.{Sending}

@@ -1,7 +1,6 @@
 -- What a program in C is told, in numbers: the definitions of `airframe`, each answer by its number.
 -- Assumes nothing.
-use Rattle.std.specs.Prelude.{ℕ, ◌^◌, Bool, true, ◌&&◌, cond, List, [], ◌∷◌, map, ltb, eqb, ℤ, pos, neg_ℤ, length, get_or}
-use Rattle.std.proofs.Math.Option.{Option, none, some}
+use Rattle.std.specs.Prelude.{ℕ, ◌^◌, Bool, true, ◌&&◌, cond, List, [], ◌∷◌, map, ltb, eqb, ℤ, pos, neg_ℤ, length, get_or, Option, Some, None}
 use Rattle.std.proofs.lemmas.List.Edits.{sets}
 use Rattle.rows.specs.Rows.{Said, refused, gave, Out, out, ran}
 use Rattle.packets.specs.declared.Command.{Command}
@@ -129,8 +128,8 @@ abbrev pub told : ℤ → ℤ → List ℤ → List ℕ → Told
 told step kind values state = record { step = step; kind = kind; values = values; state = state }
 
 abbrev pub read_told : Option (Said Meant) → ℤ → List ℤ → Out ℤ (Unit {0}) (List ℤ)
-read_told none kind values = out kind tt values
-read_told (some m) kind values = read_answered m values
+read_told None kind values = out kind tt values
+read_told (Some m) kind values = read_answered m values
 
 abbrev pub told_beside : Option (Said Meant) → Came → ℤ → List ℤ → List ℕ → Told
 told_beside m x kind values s =

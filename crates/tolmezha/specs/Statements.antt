@@ -1,12 +1,12 @@
 -- What the library's numbers are worth, each sentence a statement.
 -- Assumes nothing.
-use Rattle.std.specs.Prelude.{ℕ, ◌^◌, ◌<◌, ◌≤◌, ◌≡◌, Bool, true, false, ◌&&◌, List, [], ◌∷◌, ◌++◌, map, ◌↔◌, ◌⊎◌, ℤ, pos, neg_ℤ, negsuc, length, take, drop}
+use Rattle.std.specs.Prelude.{ℕ, ◌^◌, ◌<◌, ◌≤◌, ◌≡◌, Bool, true, false, ◌&&◌, List, [], ◌∷◌, ◌++◌, map, ◌↔◌, ◌⊎◌, ℤ, pos, neg_ℤ, negsuc, length, take, drop, Result}
 use Rattle.rows.specs.Rows.{Said, refused, gave, out}
 use Rattle.packets.specs.declared.Command.{Command}
 use Rattle.packets.specs.declared.Parsed.TheVariants.{Acknowledgement, Asked}
 use Rattle.packets.specs.Reading.{packet_read}
 use Rattle.packets.specs.Answers.{command_bytes, data_answer}
-use Rattle.airframe.specs.declared.Built.{Built}
+use Rattle.airframe.specs.declared.Refusal.{Refusal}
 use Rattle.airframe.specs.declared.Form.{Form}
 use Rattle.airframe.specs.declared.Form.TheVariants.{Taken, Failed}
 use Rattle.airframe.specs.declared.Sending.TheVariants.{Awaiting}
@@ -41,7 +41,7 @@ block_meant (gave (block b)) = b
 -- ---- "one definition gives each answer its number": what leaves the same numbers, in C's own memory, is the same
 
 pub record NumbersApart : Type 0 where
-  pub built : (r s : Built) → answered (built_said r) ≡ answered (built_said s) → r ≡ s
+  pub built : (r s : Result ℕ Refusal) → answered (built_said r) ≡ answered (built_said s) → r ≡ s
   pub meanings : (m n : Said Meant) (values : List ℤ) → length values ≡ 13 → Whole m → Whole n → block_meant m ≡ block_meant n
       → read_answered m values ≡ read_answered n values → m ≡ n
   pub steps : (r s : Step) → step_of r ≡ step_of s → r ≡ s

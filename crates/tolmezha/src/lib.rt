@@ -90,7 +90,7 @@ pub const LOST: i32 = 3; // the pod is lost
 pub extern "C" fn tolmezha_crc(bytes: &[u8]) -> u32
     ensures { result ≡ crc_of bytes.now }
 {
-    crc::crc_of(bytes) as u32
+    u32::from(crc::crc_of(bytes))
 }
 
 // Builds an Initialise of the nine fields from the start of the room on, and keeps the rest of the room. Returns how many bytes it
@@ -99,7 +99,10 @@ pub extern "C" fn tolmezha_crc(bytes: &[u8]) -> u32
 pub extern "C" fn tolmezha_initialise(fields: &[u32; 9], room: &mut [u8]) -> i32
     ensures { out result tt room.new ≡ command_answered (command.Initialise (fields_nine fields.now)) room.old }
 {
-    building::nine(true, *fields, room)
+    let Some(fields) = building::nine(*fields) else {
+        return OUTSIDE;
+    };
+    building::command(Command::Initialise(fields), room)
 }
 
 // Builds an Update of the nine fields, and returns and keeps what tolmezha_initialise does.
@@ -107,7 +110,10 @@ pub extern "C" fn tolmezha_initialise(fields: &[u32; 9], room: &mut [u8]) -> i32
 pub extern "C" fn tolmezha_update(fields: &[u32; 9], room: &mut [u8]) -> i32
     ensures { out result tt room.new ≡ command_answered (command.Update (fields_nine fields.now)) room.old }
 {
-    building::nine(false, *fields, room)
+    let Some(fields) = building::nine(*fields) else {
+        return OUTSIDE;
+    };
+    building::command(Command::Update(fields), room)
 }
 
 // Builds a Status. Returns how many bytes it built from the start of the room on; SMALL where the room is too small. Keeps the rest of
@@ -125,10 +131,10 @@ pub extern "C" fn tolmezha_status(room: &mut [u8]) -> i32
 pub extern "C" fn tolmezha_parameter_write(id: u32, value: i32, room: &mut [u8]) -> i32
     ensures { out result tt room.new ≡ command_answered (command.Write id value) room.old }
 {
-    if id > 0xFF {
+    let Ok(id) = u8::try_from(id) else {
         return OUTSIDE;
-    }
-    building::command(Command::Write(id as u8, value), room)
+    };
+    building::command(Command::Write(id, value), room)
 }
 
 // Builds a Parameter read, and returns and keeps what tolmezha_initialise does. OUTSIDE: the id is not 1 to 12.
@@ -136,10 +142,10 @@ pub extern "C" fn tolmezha_parameter_write(id: u32, value: i32, room: &mut [u8])
 pub extern "C" fn tolmezha_parameter_read(id: u32, room: &mut [u8]) -> i32
     ensures { out result tt room.new ≡ command_answered (command.Read id) room.old }
 {
-    if id > 0xFF {
+    let Ok(id) = u8::try_from(id) else {
         return OUTSIDE;
-    }
-    building::command(Command::Read(id as u8), room)
+    };
+    building::command(Command::Read(id), room)
 }
 
 // Builds a Priority data, which asks for the oldest priority block, and returns and keeps what tolmezha_status does.
@@ -172,10 +178,10 @@ pub extern "C" fn tolmezha_shutdown(room: &mut [u8]) -> i32
 pub extern "C" fn tolmezha_taken(code: u32, room: &mut [u8]) -> i32
     ensures { out result tt room.new ≡ acknowledgement_answered code Taken room.old }
 {
-    if code > 0xFF {
+    let Ok(code) = u8::try_from(code) else {
         return OUTSIDE;
-    }
-    building::acknowledgement(code as u8, Form::Taken, room)
+    };
+    building::acknowledgement(code, Form::Taken, room)
 }
 
 // Builds the acknowledgement of an answer that was not: the command's code, 0x09 and an error byte of the caller's. The pod keeps the
@@ -184,13 +190,13 @@ pub extern "C" fn tolmezha_taken(code: u32, room: &mut [u8]) -> i32
 pub extern "C" fn tolmezha_failed(code: u32, error: u32, room: &mut [u8]) -> i32
     ensures { out result tt room.new ≡ acknowledgement_answered code (Failed error) room.old }
 {
-    if code > 0xFF {
+    let Ok(code) = u8::try_from(code) else {
         return OUTSIDE;
-    }
-    if error > 0xFF {
+    };
+    let Ok(error) = u8::try_from(error) else {
         return OUTSIDE;
-    }
-    building::acknowledgement(code as u8, Form::Failed(error as u8), room)
+    };
+    building::acknowledgement(code, Form::Failed(error), room)
 }
 
 // Reads an answer to the command of that code. Returns its kind and sets that kind's values from the first place on; WRONG where the
@@ -220,10 +226,10 @@ pub extern "C" fn tolmezha_block(answer: &[u8], block: &mut [u8; 256]) -> i32
 pub extern "C" fn tolmezha_sent(code: u32, state: &mut [u32; 2]) -> i32
     ensures { out result tt state.new ≡ sent_answered code state.old }
 {
-    if code > 0xFF {
+    let Ok(code) = u8::try_from(code) else {
         return OUTSIDE;
-    }
-    steps::put_state(Sending::sent(code as u8), state);
+    };
+    *state = steps::state_of(Sending::sent(code));
     0
 }
 
@@ -235,10 +241,8 @@ pub extern "C" fn tolmezha_silence(state: &mut [u32; 2]) -> i32
 {
     let before = steps::sending_in(*state);
     let heard = before.silence();
-    let next = heard.sending;
-    steps::leave(before, next, state);
-    let step = heard.step;
-    steps::step_of(step)
+    steps::leave(before, heard.sending, state);
+    steps::step_of(heard.step)
 }
 
 // An answer came. Returns the step and leaves in the state what is on its way then: a wrong answer and error 0x01 use up a send, as
@@ -255,10 +259,7 @@ pub extern "C" fn tolmezha_reply(
 {
     let before = steps::sending_in(*state);
     let heard = before.reply(answer);
-    let reply = heard.reply;
-    steps::put_reply(reply, answer, kind, values);
-    let next = heard.sending;
-    steps::leave(before, next, state);
-    let step = heard.step;
-    steps::step_of(step)
+    steps::put_reply(heard.reply, answer, kind, values);
+    steps::leave(before, heard.sending, state);
+    steps::step_of(heard.step)
 }

@@ -7,48 +7,26 @@ ghost use Rattle.tolmezha.specs.Numbers.{read_answered};
 
 use crate::{
     BLOCK, DONE, ERROR, STATUS, STATUS_FLAGS, STATUS_IDS, STATUS_MODE, STATUS_ORDINARY,
-    STATUS_PRIORITY, STATUS_REQUEST, VALUE, WRONG,
+    STATUS_PRIORITY, STATUS_REQUEST, VALUE,
 };
-use airframe::{Meaning, Shown};
+use airframe::{Meaning, Refusal, Shown};
 
 // The code as a byte. A larger number is no command's code, and 0 is none either.
+// No Option: `read` refuses 0 as it refuses the larger number, and the clause says just that.
 pub fn byte(code: u32) -> u8
     ensures { (a : List ℕ) → read_as result a ≡ read_as code a }
 {
-    if code > 0xFF {
-        return 0;
-    }
-    code as u8
+    u8::try_from(code).unwrap_or(0)
 }
 
-// A number among the values.
-fn value_of(n: u32) -> i64
-    ensures { result ≡ pos n }
-{
-    n as i64
-}
-
-fn value_of_signed(v: i32) -> i64
-    ensures { result ≡ v }
-{
-    v as i64
-}
-
-fn value_of_byte(b: u8) -> i64
-    ensures { result ≡ pos b }
-{
-    value_of(b as u32)
-}
-
+// The ids are a part of the answer, a slice of eight at the most, so each function that is handed them says the bound. `enumerate` gives
+// the place in the values: to zip with a part of them would be as long.
 fn put_ids(ids: &[u8], values: &mut [i64; 13])
     requires { length ids.now ≤ 8 }
     ensures { values.new ≡ sets values.old 5 (map pos ids.now) }
 {
-    let mut i: usize = 0;
-    while i < ids.len() {
-        let id = value_of_byte(ids[i]);
-        values[STATUS_IDS + i] = id;
-        i += 1;
+    for (i, id) in ids.iter().enumerate() {
+        values[STATUS_IDS + i] = i64::from(*id);
     }
 }
 
@@ -56,41 +34,35 @@ fn put_status(shown: Shown, ids: &[u8], values: &mut [i64; 13])
     requires { length ids.now ≤ 8 }
     ensures { values.new ≡ sets values.old 0 (map pos (shown.mode ∷ shown.flags ∷ shown.priority ∷ shown.ordinary ∷ shown.request ∷ ids.now)) }
 {
-    let mode = value_of_byte(shown.mode);
-    let flags = value_of(shown.flags as u32);
-    let priority = value_of(shown.priority as u32);
-    let ordinary = value_of(shown.ordinary);
-    let request = value_of_byte(shown.request);
-    values[STATUS_MODE] = mode;
-    values[STATUS_FLAGS] = flags;
-    values[STATUS_PRIORITY] = priority;
-    values[STATUS_ORDINARY] = ordinary;
-    values[STATUS_REQUEST] = request;
+    values[STATUS_MODE] = i64::from(shown.mode);
+    values[STATUS_FLAGS] = i64::from(shown.flags);
+    values[STATUS_PRIORITY] = i64::from(shown.priority);
+    values[STATUS_ORDINARY] = i64::from(shown.ordinary);
+    values[STATUS_REQUEST] = i64::from(shown.request);
     put_ids(ids, values);
 }
 
-pub fn put(meaning: Meaning, answer: &[u8], values: &mut [i64; 13]) -> i32
-    ensures { out result tt values.new ≡ read_answered (meaning_said meaning answer.now) values.old }
+// The answer stands beside what it means, here and in `put_reply`, as `meaning_said` has the two.
+#[tactic(auto, using(crate::proofs::Read::few_ids), unfolding(airframe::specs::Reading::meaning_said))]
+pub fn put(read: Result<Meaning, Refusal>, answer: &[u8], values: &mut [i64; 13]) -> i32
+    ensures { out result tt values.new ≡ read_answered (meaning_said read answer.now) values.old }
 {
-    match meaning {
-        Meaning::Unusable => WRONG,
-        Meaning::Done => DONE,
-        Meaning::Error(error) => {
-            let first = value_of_byte(error);
-            values[0] = first;
+    match read {
+        Err(why) => -i32::from(u8::from(why)),
+        Ok(Meaning::Done) => DONE,
+        Ok(Meaning::Error(error)) => {
+            values[0] = i64::from(error);
             ERROR
         }
-        Meaning::State(shown) => {
+        Ok(Meaning::State(shown)) => {
             put_status(shown, airframe::ids(answer), values);
             STATUS
         }
-        Meaning::Value(id, value) => {
-            let first = value_of_byte(id);
-            let second = value_of_signed(value);
-            values[0] = first;
-            values[1] = second;
+        Ok(Meaning::Value(id, value)) => {
+            values[0] = i64::from(id);
+            values[1] = i64::from(value);
             VALUE
         }
-        Meaning::Block => BLOCK,
+        Ok(Meaning::Block) => BLOCK,
     }
 }

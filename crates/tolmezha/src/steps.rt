@@ -5,8 +5,9 @@ ghost use Rattle.airframe.specs.Sending as sending;
 ghost use Rattle.tolmezha.specs.Numbers.{sends_of, state_of, sending_in, step_of, read_told};
 
 use crate::{AGAIN, ENDED, IDLE, LOST};
-use airframe::{Left, Reply, Sending, Step};
+use airframe::{Left, Meaning, Refusal, Sending, Step};
 
+// The number that C is told.
 fn sends_of(left: Left) -> u32
     ensures { result ≡ sends_of left }
 {
@@ -22,29 +23,25 @@ fn sends_of(left: Left) -> u32
 pub fn sending_in(state: [u32; 2]) -> Sending
     ensures { result ≡ sending_in state }
 {
-    if state[0] > 0xFF {
+    let Ok(code) = u8::try_from(state[0]) else {
         return Sending::Over;
-    }
-    let code = state[0] as u8;
-    match state[1] {
-        1 => Sending::Awaiting(code, Left::Nought),
-        2 => Sending::Awaiting(code, Left::One),
-        3 => Sending::Awaiting(code, Left::Two),
-        4 => Sending::Awaiting(code, Left::Three),
-        _ => Sending::Over,
-    }
+    };
+    let left = match state[1] {
+        1 => Left::Nought,
+        2 => Left::One,
+        3 => Left::Two,
+        4 => Left::Three,
+        _ => return Sending::Over,
+    };
+    Sending::Awaiting(code, left)
 }
 
-pub fn put_state(next: Sending, state: &mut [u32; 2])
-    ensures { state.new ≡ state_of next }
+pub fn state_of(next: Sending) -> [u32; 2]
+    ensures { result ≡ state_of next }
 {
     match next {
-        Sending::Over => {
-            *state = [0, 0];
-        }
-        Sending::Awaiting(code, left) => {
-            *state = [code as u32, sends_of(left)];
-        }
+        Sending::Over => [0, 0],
+        Sending::Awaiting(code, left) => [u32::from(code), sends_of(left)],
     }
 }
 
@@ -52,14 +49,12 @@ pub fn put_state(next: Sending, state: &mut [u32; 2])
 pub fn leave(before: Sending, next: Sending, state: &mut [u32; 2])
     ensures { state.new ≡ cond (sending.is_over before) state.old (state_of next) }
 {
-    match before {
-        Sending::Over => {}
-        Sending::Awaiting(_, _) => {
-            put_state(next, state);
-        }
+    if let Sending::Awaiting(_, _) = before {
+        *state = state_of(next);
     }
 }
 
+// The steps' numbers in C stand here and not in the order of airframe's enum.
 pub fn step_of(step: Step) -> i32
     ensures { result ≡ step_of step }
 {
@@ -72,13 +67,16 @@ pub fn step_of(step: Step) -> i32
 }
 
 // What an answer was read as, where it was read.
-pub fn put_reply(reply: Reply, answer: &[u8], kind: &mut i32, values: &mut [i64; 13])
+// The answer stands beside what it means, as `reply_said` has the two.
+pub fn put_reply(
+    reply: Option<Result<Meaning, Refusal>>,
+    answer: &[u8],
+    kind: &mut i32,
+    values: &mut [i64; 13],
+)
     ensures { out kind.new tt values.new ≡ read_told (sending.reply_said reply answer.now) kind.old values.old }
 {
-    match reply {
-        Reply::Unread => {}
-        Reply::Answer(meaning) => {
-            *kind = crate::reading::put(meaning, answer, values);
-        }
+    if let Some(read) = reply {
+        *kind = crate::reading::put(read, answer, values);
     }
 }

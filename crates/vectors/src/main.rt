@@ -8,36 +8,30 @@ fn next(x: u64) -> u64 {
 
 fn fill(bytes: &mut [u8], seed: u64) -> u64 {
     let mut x = seed;
-    let mut i: usize = 0;
-    while i < bytes.len() {
+    for b in bytes.iter_mut() {
         x = next(x);
-        bytes[i] = (x / 65536 % 256) as u8;
-        i += 1;
+        *b = (x / 65536 % 256) as u8;
     }
     x
 }
 
-// Where nobody reads what is written, the next lines have nowhere to go either: the answer of the write changes nothing.
-fn print(bytes: &[u8]) {
-    let d = hexes::word(crc::crc_of(bytes));
-    io::write_all(1, &[d[0], d[1], d[2], d[3], b'\n']);
+// A line that could not be written has nowhere to be told: the next one is tried all the same.
+fn print(rt: &impl Print, bytes: &[u8]) {
+    let crc = crc::crc_of(bytes);
+    let _ = println!(rt; "{crc:04X}");
 }
 
-fn string(space: &mut [u8], n: usize, seed: u64) -> u64 {
-    if n > space.len() {
-        return seed;
-    }
-    let part = &mut space[..n];
-    let x = fill(part, seed);
-    print(part);
-    x
-}
-
-fn main() {
-    print(b"123456789");
-    let mut space = io::buffer();
+fn print_all(rt: &impl Print) {
+    print(rt, b"123456789");
+    let mut space = [0u8; 4096];
     let mut x: u64 = 1;
-    for n in 0..4097usize {
-        x = string(&mut space, n, x);
+    for n in 0..=4096usize {
+        let string = &mut space[..n];
+        x = fill(string, x);
+        print(rt, string);
     }
+}
+
+fn main(rt: HostRuntime) {
+    print_all(&rt);
 }

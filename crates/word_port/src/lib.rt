@@ -1,6 +1,8 @@
 // The table word port.
 #![tactic(auto)]
 
+mod status;
 mod words;
 
-pub use words::{command_word, data_in, data_out, status_word};
+pub use status::status_word;
+pub use words::{command_word, data_in, data_out};

@@ -4,4 +4,4 @@ use Rattle.std.proofs.lemmas.List.Edits.{sets}
 use Rattle.numbers.proofs.copy.Given as goal
 
 abbrev pub invariant-loop-i : goal.invariant-loop-i
-invariant-loop-i l = l.to ≡ sets l.initial.to l.at (take l.i l.run)
+invariant-loop-i g l = l.to ≡ sets l.initial.to l.at (take l.i l.run)

@@ -1,20 +1,16 @@
--- `scans::find`: the byte stands here, it does not, or none is left.
-use Rattle.std.proofs.Common.{◌≡◌, arith}
-use Rattle.scans.proofs.Steps.{passed, found, ended}
+-- `scans::find`: what `position` gives of the part, found or not.
+use Rattle.std.proofs.Common.{eqb, arith, tests, rules}
+use Rattle.std.proofs.lemmas.Iterator.{YieldsList-from_slice}
+use Rattle.std.proofs.lemmas.Iterator.Search.{position_from_yields_List}
+use Rattle.scans.proofs.Places.{found, nowhere}
 use Rattle.scans.proofs.find.Goals as goal
 
-pub returns-then-text-i : goal.returns-then-text-i
-returns-then-text-i c =
-    omega (arith, c.loop-i.invariant.2, found c.args.b c.loop-i.i c.args.to c.args.text.now (omega arith) (omega arith) c.if-text-i.true)
+pub returns-in-Some : goal.returns-in-Some
+returns-in-Some c =
+    let first = position_from_yields_List (λ x. eqb x c.args.b) _ _ c.position.result c.position.ensures.ran (YieldsList-from_slice _ c.iter.ensures.rest) (λ x b q k. search (rules, tests)) in
+    found _ _ _ _ _ _ (omega arith) first c.in-Some.is
 
-pub loop-i-preserved : goal.loop-i-preserved
-loop-i-preserved c = (
-  omega arith,
-  omega arith,
-  omega (arith, c.loop-i.invariant.2, passed c.args.b c.loop-i.i c.args.to c.args.text.now (omega arith) (omega arith) c.if-text-i.false),
-)
-
-pub returns : goal.returns
-returns c =
-    let last : c.loop-i.i ≡ c.args.to = omega arith in
-    omega (arith, rw last at c.loop-i.invariant.2, ended c.args.b c.args.to c.args.text.now (omega arith))
+pub returns-in-None : goal.returns-in-None
+returns-in-None c =
+    let first = position_from_yields_List (λ x. eqb x c.args.b) _ _ c.position.result c.position.ensures.ran (YieldsList-from_slice _ c.iter.ensures.rest) (λ x b q k. search (rules, tests)) in
+    nowhere _ _ _ _ _ (omega arith) (omega arith) first c.in-None.is

@@ -7,7 +7,6 @@ use Rattle.airframe.specs.Given.{command_typed}
 use Rattle.tolmezha.proofs.Built.{command-outside}
 use Rattle.tolmezha.proofs.tolmezha_parameter_read.Goals as goal
 
-pub returns-then-id-gt255 : goal.returns-then-id-gt255
+pub returns-in_default : goal.returns-in_default
 unfolding command_typed
-returns-then-id-gt255 c =
-    command-outside (Read c.args.id) c.args.room.now (le-ltb c.args.id (2 ^ 8) (omega (arith, c.if-id-gt255.true)))
+returns-in_default c = command-outside (Read c.args.id) c.args.room.now (le-ltb c.args.id (2 ^ 8) (omega (arith, c.in_default.ensures)))

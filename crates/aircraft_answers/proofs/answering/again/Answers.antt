@@ -1,22 +1,19 @@
--- `aircraft_answers::answering::again` meets its contract: what is on its way, or that nothing is. Assumes nothing.
+-- What is on its way, or that nothing is.
 use native.Mathlib.Omega.{arith}
-use mathlib.Core.List.{[], ◌∷◌}
-use Rattle.decimals.proofs.Behind.{appended}
+use mathlib.Core.Path.{refl, ap}
+use lib.ListN.{length, length-take}
+use Rattle.items.specs.Printed.{bytes_line}
+use Rattle.items.proofs.Behind.{renamed}
 use Rattle.aircraft_answers.specs.Promise.{way_in}
-use Rattle.aircraft_answers.proofs.Lines.{few_taken, bytes-written, stayed, over_again, sent-again}
+use Rattle.aircraft_answers.proofs.Lines.{over_again, sent-again}
 use Rattle.aircraft_answers.proofs.answering.again.Goals as goal
 
 pub returns-in-Over : goal.returns-in-Over
-returns-in-Over c =
-    let a = c.args in
-    let e = c.append.ensures in
-    rw (over_again (way_in a.way) c.in-Over.is)
-    (stayed _ a.way _ _ _ _ _ c.stay.ensures c.requires.count_bound (appended (78 ∷ 32 ∷ 45 ∷ 10 ∷ []) 800 _ _ _ _ e.value e.out_after (omega arith)))
+returns-in-Over g c = rw (over_again (way_in c.args.way.now) c.in-Over.is) (renamed _ 800 refl (omega arith) c.append.ensures)
 
 pub returns-in-Awaiting : goal.returns-in-Awaiting
-returns-in-Awaiting c =
-    let a = c.args in
+returns-in-Awaiting g c =
+    let way = c.args.way.now in
     let front = c.front.ensures.result_value in
-    let e = c.bytes_line.ensures in
-    rw (sent-again (way_in a.way) _ _ c.in-Awaiting.is)
-    (stayed _ a.way _ _ _ _ _ c.stay-in-Awaiting.ensures c.requires.count_bound (bytes-written 80 _ _ _ _ _ _ front (few_taken a.way.count _ _ c.requires.count_bound front) e.value e.out_after e.upper_bound))
+    rw (sent-again (way_in way) _ _ c.in-Awaiting.is)
+    (renamed _ 800 (ap (bytes_line 80) front) (omega (arith, ap length front, length-take way.count way.room, c.args.way.now.fits)) c.bytes_line.ensures)

@@ -1,49 +1,58 @@
--- `aircraft_answers::answering::answer` meets its contract: each line by its own function. Assumes nothing.
+-- Each line by its own function.
 use native.Mathlib.Omega.{arith}
-use mathlib.Core.List.{[], ◌∷◌}
-use Rattle.items.specs.Printed.{bare_line}
-use Rattle.decimals.proofs.Behind.{appended}
+use borrow.Author.Rules.{rules}
+use mathlib.Core.Path.{refl, ap, ◌∙◌}
+use Rattle.std.specs.Prelude.{Some}
+use Rattle.items.specs.Printed.{refused_line}
+use Rattle.items.proofs.Behind.{renamed}
+use Rattle.airframe.specs.Building.{refusal_number}
 use Rattle.aircraft_answers.specs.Spoken.{spoken_of}
-use Rattle.aircraft_answers.proofs.Lines.{refused_written, stayed}
+use Rattle.aircraft_answers.specs.Promise.{way_in}
+use Rattle.aircraft_answers.proofs.Lines.{stayed, take_stays}
 use Rattle.aircraft_answers.proofs.Asking.{line_spoken, as_asked}
 use Rattle.aircraft_answers.proofs.answering.answer.Goals as goal
 
-pub returns-in-Send : goal.returns-in-Send
-unfolding line_spoken
-returns-in-Send c = as_asked _ _ _ _ _ _ _ (rw c.in-Send.is c.send.ensures)
+pub refused_line-requires : goal.refused_line-requires
+unfolding refusal_number
+refused_line-requires g c = (search rules, (omega arith, omega (arith, c.from.ensures)))
 
-pub returns-in-Outside : goal.returns-in-Outside
+pub returns-in-Some-Send : goal.returns-in-Some-Send
 unfolding line_spoken
-returns-in-Outside c =
-    let a = c.args in
-    let e = c.refused_line.ensures in
-    as_asked _ _ _ _ _ _ _
-    (rw c.in-Outside.is (stayed _ a.way _ _ _ _ _ c.stay.ensures c.requires.count_bound (refused_written 81 20 _ _ _ _ e.value e.out_after e.upper_bound)))
+returns-in-Some-Send g c = as_asked _ _ _ _ _ _ (rw (c.in-Some-Send.is ∙ ap Some (rw c.in-Some-Send.is at c.in-Some-Send.field-0-is)) c.send.ensures)
 
-pub returns-in-Take : goal.returns-in-Take
+pub returns-in-Some-Outside : goal.returns-in-Some-Outside
+unfolding line_spoken refusal_number
+returns-in-Some-Outside g c =
+    as_asked _ _ _ _ _ _
+    (rw (c.in-Some-Outside.is ∙ ap Some (rw c.in-Some-Outside.is at c.in-Some-Outside.field-0-is))
+    (stayed _ c.args.way.now refl (renamed _ 800 (ap (refused_line 81) c.from.ensures) (omega arith) c.refused_line.ensures)))
+
+pub returns-in-Some-Take : goal.returns-in-Some-Take
 unfolding line_spoken
-returns-in-Take c = as_asked _ _ _ _ _ _ _ (rw c.in-Take.is c.take.ensures)
+returns-in-Some-Take g c =
+    let i = c.in-Some-Take in
+    as_asked _ _ _ _ _ _
+    (rw (i.is ∙ ap Some (rw i.is at i.field-0-is)) (stayed _ c.args.way.now (take_stays i.first i.form (way_in c.args.way.now)) (c.take.ensures (way_in c.args.way.now))))
 
-pub returns-in-Hear : goal.returns-in-Hear
+pub returns-in-Some-Hear : goal.returns-in-Some-Hear
 unfolding line_spoken spoken_of
-returns-in-Hear c =
-    as_asked _ _ _ _ _ _ _
-    (rw (c.in-Hear.is, ← c.front-heard.ensures.result_value, ← c.reply.ensures) c.tell.ensures)
+returns-in-Some-Hear g c =
+    let i = c.in-Some-Hear in
+    as_asked _ _ _ _ _ _ (rw (i.is ∙ ap Some (rw i.is at i.field-0-is), ← c.front-heard.ensures.result_value, ← c.reply.ensures) c.tell.ensures)
 
-pub returns-in-Wait : goal.returns-in-Wait
+pub returns-in-Some-Wait : goal.returns-in-Some-Wait
 unfolding line_spoken spoken_of
-returns-in-Wait c =
-    let bs = c.args.bytes.now in
-    as_asked _ _ _ _ _ _ _ (rw (c.in-Wait.is, ← c.silence.ensures bs) c.tell-in-Wait.ensures)
+returns-in-Some-Wait g c =
+    let i = c.in-Some-Wait in
+    as_asked _ _ _ _ _ _ (rw (i.is ∙ ap Some (rw i.is at i.field-0-is), ← c.silence.ensures c.args.bytes.now) c.tell-in-Some-Wait.ensures)
 
-pub returns-in-Again : goal.returns-in-Again
-unfolding line_spoken
-returns-in-Again c = as_asked _ _ _ _ _ _ _ (rw c.in-Again.is c.again.ensures)
+pub returns-in-Some-Again : goal.returns-in-Some-Again
+unfolding line_spoken spoken_of
+returns-in-Some-Again g c =
+    let i = c.in-Some-Again in
+    as_asked _ _ _ _ _ _ (rw (i.is ∙ ap Some (rw i.is at i.field-0-is)) (stayed _ c.args.way.now refl c.again.ensures))
 
-pub returns-in-Other : goal.returns-in-Other
-unfolding line_spoken spoken_of bare_line
-returns-in-Other c =
-    let a = c.args in
-    let e = c.bare_line.ensures in
-    as_asked _ _ _ _ _ _ _
-    (rw c.in-Other.is (stayed _ a.way _ _ _ _ _ c.stay-in-Other.ensures c.requires.count_bound (appended (63 ∷ 10 ∷ []) 800 _ _ _ _ e.value e.out_after (omega arith))))
+pub returns-in-None : goal.returns-in-None
+unfolding line_spoken spoken_of
+returns-in-None g c =
+    as_asked _ _ _ _ _ _ (rw c.in-None.is (stayed _ c.args.way.now refl (renamed _ 800 refl (omega arith) c.bare_line.ensures)))

@@ -1,21 +1,12 @@
--- `aircraft_answers::meanings::put_status` meets its contract: the word, the numbers and the ids. Assumes nothing.
-use Prim.Native.Nat.{◌+◌, ◌*◌}
+-- The word, the numbers and the ids.
 use native.Mathlib.Omega.{arith}
-use mathlib.Core.List.{[], ◌∷◌}
-use lib.ListN.{length}
-use Rattle.decimals.specs.Printing.{spelled, naturals}
-use Rattle.decimals.proofs.Behind.{appended, both, renamed}
+use Rattle.items.proofs.Behind.{both, renamed}
 use Rattle.airframe.specs.Reading.{shown_report}
-use Rattle.aircraft_answers.specs.Words.{characters}
 use Rattle.aircraft_answers.proofs.Texts.{status_text}
 use Rattle.aircraft_answers.proofs.meanings.put_status.Goals as goal
 
 pub returns : goal.returns
-returns c =
-    let a = c.args in
-    let s = a.shown in
-    let ids = a.ids.now in
-    let first = c.append-first.ensures in
-    renamed _ _ (7 + (105 + 21 * length ids)) 280 _ _ _ _ (status_text (shown_report s ids) s.request) (omega (arith, c.requires.0))
-    (both (characters " status") _ 7 (105 + 21 * length ids) _ _ _ _ _ _ (appended (characters " status") 7 _ _ _ _ first.value first.out_after (omega arith))
-    (both (spelled (naturals (s.mode ∷ s.flags ∷ s.priority ∷ s.ordinary ∷ s.request ∷ []))) (spelled (naturals ids)) 105 (21 * length ids) _ _ _ _ _ _ c.put_run-behind.ensures c.put_ids.ensures))
+returns g c =
+    let s = c.args.shown in
+    let numbers = rw (c.from.ensures, c.from-2.ensures, c.from-3.ensures, c.from-4.ensures, c.from-5.ensures) at c.put_run.ensures in
+    renamed _ 280 (status_text (shown_report s c.args.ids.now) s.request) (omega arith) (both c.append.ensures (both numbers c.put_run-2.ensures))

@@ -1,8 +1,7 @@
 -- `lab_names::names::named`: each name is compared in turn. Assumes nothing.
-use Rattle.std.proofs.Common.{◌≡◌, ◌≤◌, length, get_or, arith, rules, sym, ◌∙◌}
-use Rattle.lab_names.specs.Names.{names, no_name, part_named}
-use Rattle.lab_names.proofs.Spelling.{part_here, part_past, part_end, names-length}
-use Rattle.lab_names.proofs.Joined.{spelled, text_here}
+use Rattle.std.proofs.Common.{◌≤◌, length, arith, sym, ap, ◌∙◌}
+use Rattle.lab_names.specs.Names.{names, part_named}
+use Rattle.lab_names.proofs.Spelling.{look, look_is, part_here, part_past, part_end}
 use borrow.Author.Tests.{le-leb, lt-leb}
 use lib.Pointwise.{bytes_decides}
 use Rattle.rows.proofs.Bool.{never}
@@ -12,32 +11,28 @@ pub returns-then-head-gt-LONGEST : goal.returns-then-head-gt-LONGEST
 unfolding part_named
 returns-then-head-gt-LONGEST c = rw (lt-leb (length c.args.head.now) 14 (omega arith))
 
-pub loop-i-init : goal.loop-i-init
+pub loop-name-init : goal.loop-name-init
 unfolding part_named
-loop-i-init c =
+loop-name-init c =
     let short : length c.args.head.now ≤ 14 = omega arith in
-    (search rules, rw (c.pad-text.ensures, le-leb (length c.args.head.now) 14 short))
+    ap (look c.pad-text.result) c.table-names.ensures
+    ∙ look_is c.pad-text.result names
+    ∙ rw (c.pad-text.ensures, le-leb (length c.args.head.now) 14 short)
 
 pub returns-then-eq : goal.returns-then-eq
 returns-then-eq c =
-    let l = c.loop-i in
-    let table = c.texts-table in
+    let l = c.loop-name in
     let text = c.pad-text.result in
-    let here : spelled l.i table.result ≡ (get_or names l.i no_name).text = text_here table.result l.i table.ensures (omega arith) in
-    let same : text ≡ spelled l.i table.result = (bytes_decides text (spelled l.i table.result)).0 (sym c.eq.ensures ∙ c.if-eq.true) in
-    c.part_at.ensures ∙ sym (part_here text names l.i (omega (arith, names-length)) (same ∙ here)) ∙ l.invariant.1
+    let xs = c.table-names.result in
+    part_here text xs l.name-index _ (omega arith) ((bytes_decides _ text).0 (sym c.eq.ensures ∙ c.if-eq.true)) ∙ l.invariant
 
-pub loop-i-preserved : goal.loop-i-preserved
-loop-i-preserved c =
-    let l = c.loop-i in
-    let table = c.texts-table in
+pub loop-name-preserved : goal.loop-name-preserved
+loop-name-preserved c =
+    let l = c.loop-name in
     let text = c.pad-text.result in
-    let here : spelled l.i table.result ≡ (get_or names l.i no_name).text = text_here table.result l.i table.ensures (omega arith) in
-    let other : text ≡ (get_or names l.i no_name).text → ⊥ =
-    λ e. never (c.eq.ensures ∙ (bytes_decides text (spelled l.i table.result)).1 (e ∙ sym here)) c.if-eq.false in
-    (search rules, sym (part_past text names l.i (omega (arith, names-length)) other) ∙ l.invariant.1)
+    let xs = c.table-names.result in
+    part_past text xs l.name-index _ (omega arith) (λ e. never (c.eq.ensures ∙ (bytes_decides _ text).1 e) c.if-eq.false)
+    ∙ l.invariant
 
 pub returns : goal.returns
-returns c =
-    let l = c.loop-i in
-    sym (part_end c.pad-text.result names l.i (omega (arith, names-length))) ∙ l.invariant.1
+returns c = part_end c.pad-text.result c.table-names.result c.loop-name.name-index (omega arith) ∙ c.loop-name.invariant

@@ -1,0 +1,15 @@
+-- The line that is read says what the text asks, and its answer is that of the promise.
+use borrow.Author.Rules.{rules}
+use Rattle.aircraft_lines.specs.Asked.{ask_in}
+use Rattle.aircraft_lines.proofs.Heard.{heard_front}
+use Rattle.aircraft_loop.proofs.turns.BetweenAnswers.answer.Goals as goal
+
+pub returns-clause-answers : goal.returns-clause-answers
+returns-clause-answers c =
+    let a = c.args in
+    let line = c.read_line-line.ensures in
+    c.answer.ensures (ask_in a.text.now)
+    (record {
+      said = line.value;
+      heard = rw line.bytes_after (heard_front a.text.now a.self.now.bytes (search rules));
+    })
