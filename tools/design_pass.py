@@ -14,31 +14,14 @@ import re
 import subprocess
 import sys
 
-ROOT = pathlib.Path(__file__).resolve().parent.parent
+from trees import ROOT, files
+
 PAGE = ROOT / "docs" / "DESIGN-PASS.md"
 CHANGES = ROOT / "docs" / "DESIGN-PASS-CHANGES.md"
 MARK, END = "<!-- counts -->", "<!-- end of counts -->"
 KIND = r"crates/\w+/(?:src/.*\.rt|(?:specs|proofs)/.*\.antt|must-fail/.*\.edit)"
 FIRST = r"[^\s:=(){}]+"
 Thing = collections.namedtuple("Thing", "crate file name text pub")
-
-
-def files(commit):
-    """Each file that is compared, with its text: of the commit, or as it stands."""
-    if not commit:
-        names = subprocess.run(["git", "ls-files", "--cached", "--others", "--exclude-standard", "crates"], cwd=ROOT, capture_output=True, text=True, check=True).stdout
-        for name in sorted(set(names.split("\n"))):
-            if re.fullmatch(KIND, name) and (ROOT / name).exists():
-                yield name, (ROOT / name).read_text()
-        return
-    names = subprocess.run(["git", "ls-tree", "-r", "--name-only", commit, "crates"], cwd=ROOT, capture_output=True, text=True, check=True).stdout
-    names = [n for n in names.split("\n") if re.fullmatch(KIND, n)]
-    out = subprocess.run(["git", "cat-file", "--batch"], cwd=ROOT, input="".join(f"{commit}:{n}\n" for n in names).encode(), capture_output=True, check=True).stdout
-    for name in names:
-        head, out = out.split(b"\n", 1)
-        size = int(head.split()[2])
-        yield name, out[:size].decode()
-        out = out[size + 1:]
 
 
 def squeeze(text):
@@ -169,7 +152,7 @@ def read_edits(crate, file, text):
 def things(commit):
     """All that is compared, by the part of the page that it stands in."""
     parts = {"functions": [], "types": [], "definitions": [], "theorems": [], "edits": []}
-    for name, text in files(commit):
+    for name, text in files(commit, KIND):
         _, crate, kind, *rest = name.split("/")
         file = "/".join([kind, *rest])
         if kind == "src":

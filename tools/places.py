@@ -16,32 +16,16 @@ What it looks for goes by the text alone, so a place that is kept with its reaso
   8  Proof.antt files that walk the code by hand, and answers that say no more than `search rules`
 """
 import collections
-import pathlib
 import re
-import subprocess
 import sys
 
-ROOT = pathlib.Path(__file__).resolve().parent.parent
+from trees import files
+
+KIND = r"crates/\w+/(?:src/.*\.rt|proofs/.*\.antt)"
 NONE = r"Nothing|Unknown|Nowhere|Outside|Unread|Unusable|Bad|Other|More|Over|Open|Closed|Idle|Refused|Failure|Shut"
 WORD = re.compile(r"//[^\n]*|b?'(?:\\.|[^'])'|b?\"(?:\\.|[^\"])*\"|[A-Za-z_]\w*|\d[\w.]*|==|!=|<=|>=|&&|\|\||=>|->|::|\.\.=?|<<|>>|[-+*/%^&|]=|\S")
 KEPT = set("fn let mut if else match while for in return loop break continue as pub const struct enum impl true false self Self".split())
 found = collections.OrderedDict((p, []) for p in "1a 1b 1c 1d 2 3a 3b 4 5a 5b 6 7 8".split())
-
-
-def files(commit):
-    """Each file of src/ and of proofs/ with its text, of the commit or as it stands."""
-    if not commit:
-        for path in sorted((ROOT / "crates").glob("*/src/**/*.rt")) + sorted((ROOT / "crates").glob("*/proofs/**/*.antt")):
-            yield str(path.relative_to(ROOT)), path.read_text()
-        return
-    names = subprocess.run(["git", "ls-tree", "-r", "--name-only", commit, "crates"], cwd=ROOT, capture_output=True, text=True, check=True).stdout
-    names = [n for n in names.split("\n") if re.fullmatch(r"crates/\w+/(src/.*\.rt|proofs/.*\.antt)", n)]
-    out = subprocess.run(["git", "cat-file", "--batch"], cwd=ROOT, input="".join(f"{commit}:{n}\n" for n in names).encode(), capture_output=True, check=True).stdout
-    for name in names:
-        head, out = out.split(b"\n", 1)
-        size = int(head.split()[2])
-        yield name, out[:size].decode()
-        out = out[size + 1:]
 
 
 def functions(text):
@@ -151,7 +135,7 @@ def read_source(name, text, shapes, asked, together):
 def main():
     args = [a for a in sys.argv[1:] if not a.startswith("-")]
     shapes, asked, together = (collections.defaultdict(list) for _ in range(3))
-    for name, text in files(args[0] if args else None):
+    for name, text in files(args[0] if args else None, KIND):
         if name.endswith(".rt"):
             read_source(name, text, shapes, asked, together)
             continue
