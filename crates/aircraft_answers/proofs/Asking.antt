@@ -39,7 +39,7 @@ line-spoken waits bs w h = refl
 line-spoken again bs w h = refl
 line-spoken other bs w h = refl
 
-pub as_asked : {N : ℕ} (l : Option Line) (bs : List ℕ) (w : Way) (u : Underway) (o o' : Output N) → Spoke (line_spoken l bs w) u o o'
+pub as_asked : (l : Option Line) (bs : List ℕ) (w : Way) (u : Underway) (o o' : Output) → Spoke (line_spoken l bs w) u o o'
     → (a : Ask) → Says a l bs → Spoke (spoken_of a w) u o o'
 as_asked l bs w u o o' s a h =
     let e : line_spoken l bs w ≡ spoken_of a w = ap (λ (x : Option Line). line_spoken x bs w) h.said ∙ line-spoken a bs w h.heard in

@@ -26,11 +26,11 @@ use Rattle.aircraft_answers.proofs.Built.{Put, code_first}
 -- ---- what is on its way after them
 
 -- nothing changed
-pub stayed : {N : ℕ} (s : Spoken) (u : Underway) {o o' : Output N} → s.way ≡ way_in u → Written s.text 800 o o' → Spoke s u o o'
+pub stayed : (s : Spoken) (u : Underway) {o o' : Output} → s.way ≡ way_in u → Written s.text 800 o o' → Spoke s u o o'
 stayed s u e w = record { text = w; way = sym e }
 
 -- a command was sent
-pub newly_sent : {N : ℕ} (c : Command) (w : Way) (u : Underway) {o o' : Output N} (n : ℕ) → Put (command_fits c) (command_bytes c) u.room u.count
+pub newly_sent : (c : Command) (w : Way) (u : Underway) {o o' : Output} (n : ℕ) → Put (command_fits c) (command_bytes c) u.room u.count
     → u.sending ≡ sent (get_or u.room 0 0) → n ≤ 800 → Written (bytes_line 80 (take u.count u.room)) n o o'
     → Spoke (sent_if (command_fits c) c w) u o o'
 newly_sent c w u n p s h t =

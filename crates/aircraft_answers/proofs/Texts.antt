@@ -26,8 +26,8 @@ unfolding block_in
 one_block a = omega (arith, length-take 256 (drop 2 a))
 
 -- nothing written
-pub unwritten : {N : ℕ} (m : ℕ) (o : Output N) → Written [] m o o
-unwritten m o = record { characters = refl; place = omega arith; short = omega arith }
+pub unwritten : (m : ℕ) (o : Output) → Written [] m o o
+unwritten m o = record { characters = refl; place = omega arith; short = omega arith; room = refl; lent = refl }
 
 pub error_text : (e : ℕ) → characters " error" ++ spell (e ∷ []) ≡ meant_text (gave (failed e))
 unfolding meant_text

@@ -18,6 +18,6 @@ pub record Says (a : Ask) (line : Option Line) (bytes : List ℕ) : Type 0 where
   pub heard : take (length (heard_bytes a)) bytes ≡ heard_bytes a
 
 -- what is spoken is written behind what is gathered, and what is on its way after it is kept
-pub record Spoke {N : ℕ} (s : Spoken) (u : Underway) (o o' : Output N) : Type 0 where
+pub record Spoke (s : Spoken) (u : Underway) (o o' : Output) : Type 0 where
   pub text : Written s.text 800 o o'
   pub way : way_in u ≡ s.way

@@ -1,5 +1,5 @@
 // A line's answer.
-ghost use Rattle.std.specs.Prelude.{◌+◌, ◌≤◌, Option};
+ghost use Rattle.std.specs.Prelude.{◌+◌, ◌≤◌, length, Option};
 ghost use Rattle.items.specs.Output.{Written};
 ghost use Rattle.airframe.specs.Building.{command_fits};
 ghost use Rattle.airframe.specs.Sending.{heard_said};
@@ -15,8 +15,8 @@ use items::{Output, front};
 use packets::Command;
 
 // A command is built, and put on its way.
-fn send<const N: usize>(command: Command, way: &mut Underway, out: &mut Output<N>)
-    requires { out.old.at + 800 ≤ N }
+fn send(command: Command, way: &mut Underway, out: &mut Output<'_>)
+    requires { out.old.at + 800 ≤ length out.old.out.now }
     ensures { Spoke (sent_if (command_fits command) command (way_in way.old)) way.new out.old out.new }
 {
     let mut room = [0u8; 25];
@@ -34,8 +34,8 @@ fn send<const N: usize>(command: Command, way: &mut Underway, out: &mut Output<N
 }
 
 // An acknowledgement is built, and printed alone: nothing changes on its way.
-fn take<const N: usize>(first: u8, form: Form, out: &mut Output<N>)
-    requires { out.old.at + 800 ≤ N }
+fn take(first: u8, form: Form, out: &mut Output<'_>)
+    requires { out.old.at + 800 ≤ length out.old.out.now }
     ensures { (w : Way) → Written (spoken_of (takes first form) w).text 800 out.old out.new }
 {
     let mut room = [0u8; 25];
@@ -47,8 +47,8 @@ fn take<const N: usize>(first: u8, form: Form, out: &mut Output<N>)
 
 // What came of an answer, or of none.
 // The answer stands beside what came of it, as `heard_said` has the two.
-fn tell<const N: usize>(came: Heard, answer: &[u8], way: &mut Underway, out: &mut Output<N>)
-    requires { out.old.at + 800 ≤ N }
+fn tell(came: Heard, answer: &[u8], way: &mut Underway, out: &mut Output<'_>)
+    requires { out.old.at + 800 ≤ length out.old.out.now }
     ensures { Spoke (heard (heard_said came answer.now) (way_in way.old)) way.new out.old out.new }
 {
     put_outcome(out, came, answer);
@@ -56,8 +56,8 @@ fn tell<const N: usize>(came: Heard, answer: &[u8], way: &mut Underway, out: &mu
 }
 
 // What is on its way is printed again.
-fn again<const N: usize>(way: &Underway, out: &mut Output<N>)
-    requires { out.old.at + 800 ≤ N }
+fn again(way: &Underway, out: &mut Output<'_>)
+    requires { out.old.at + 800 ≤ length out.old.out.now }
     ensures { Written (spoken_of again (way_in way.now)).text 800 out.old out.new }
 {
     match way.sending {
@@ -67,13 +67,8 @@ fn again<const N: usize>(way: &Underway, out: &mut Output<N>)
 }
 
 // What a line asks is answered; none is any other line.
-pub fn answer<const N: usize>(
-    line: Option<Line>,
-    way: &mut Underway,
-    bytes: &[u8],
-    out: &mut Output<N>,
-)
-    requires { out.old.at + 800 ≤ N }
+pub fn answer(line: Option<Line>, way: &mut Underway, bytes: &[u8], out: &mut Output<'_>)
+    requires { out.old.at + 800 ≤ length out.old.out.now }
     ensures { (a : Ask) → Says a line bytes.now → Spoke (spoken_of a (way_in way.old)) way.new out.old out.new }
 {
     match line {

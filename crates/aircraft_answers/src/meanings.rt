@@ -12,8 +12,8 @@ use items::Output;
 
 // The thirteen numbers of a status.
 // The ids are a part of the answer, a slice of eight at the most, so the bound is a clause.
-fn put_status<const N: usize>(out: &mut Output<N>, shown: Shown, ids: &[u8])
-    requires { (length ids.now ≤ 8) × (out.old.at + 280 ≤ N) }
+fn put_status(out: &mut Output<'_>, shown: Shown, ids: &[u8])
+    requires { (length ids.now ≤ 8) × (out.old.at + 280 ≤ length out.old.out.now) }
     ensures { Written (meant_text (gave (status (shown_report shown ids.now) shown.request))) 280 out.old out.new }
 {
     out.append(b" status");
@@ -28,8 +28,8 @@ fn put_status<const N: usize>(out: &mut Output<N>, shown: Shown, ids: &[u8])
     put_run(out, ids);
 }
 
-fn put_value<const N: usize>(out: &mut Output<N>, id: u8, v: i32)
-    requires { out.old.at + 49 ≤ N }
+fn put_value(out: &mut Output<'_>, id: u8, v: i32)
+    requires { out.old.at + 49 ≤ length out.old.out.now }
     ensures { Written (meant_text (gave (value id v))) 49 out.old out.new }
 {
     out.append(b" value");
@@ -38,8 +38,8 @@ fn put_value<const N: usize>(out: &mut Output<N>, id: u8, v: i32)
 }
 
 // A word, and bytes behind it.
-fn put_listed<const N: usize>(out: &mut Output<N>, word: &[u8], bytes: &[u8])
-    requires { (length word.now + 3 * length bytes.now ≤ 773) × (out.old.at + 773 ≤ N) }
+fn put_listed(out: &mut Output<'_>, word: &[u8], bytes: &[u8])
+    requires { (length word.now + 3 * length bytes.now ≤ 773) × (out.old.at + 773 ≤ length out.old.out.now) }
     ensures { Written (word.now ++ spell bytes.now) 773 out.old out.new }
 {
     out.append(word);
@@ -48,12 +48,8 @@ fn put_listed<const N: usize>(out: &mut Output<N>, word: &[u8], bytes: &[u8])
 
 // What an answer means, or why it is not read. The longest is a block of 256 bytes.
 // The answer stands beside what it means, as `meaning_said` has the two.
-pub fn put_meaning<const N: usize>(
-    out: &mut Output<N>,
-    read: Result<Meaning, Refusal>,
-    answer: &[u8],
-)
-    requires { out.old.at + 773 ≤ N }
+pub fn put_meaning(out: &mut Output<'_>, read: Result<Meaning, Refusal>, answer: &[u8])
+    requires { out.old.at + 773 ≤ length out.old.out.now }
     ensures { Written (meant_text (meaning_said read answer.now)) 773 out.old out.new }
 {
     match read {

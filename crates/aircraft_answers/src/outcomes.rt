@@ -1,5 +1,5 @@
 // The lines that begin with `R`: what an answer means, and what is next.
-ghost use Rattle.std.specs.Prelude.{◌+◌, ◌≤◌};
+ghost use Rattle.std.specs.Prelude.{◌+◌, ◌≤◌, length};
 ghost use Rattle.items.specs.Output.{Written};
 ghost use Rattle.airframe.specs.Sending.{reply_said, heard_said};
 ghost use Rattle.aircraft_answers.specs.Words.{read_text, step_text, outcome_text};
@@ -10,12 +10,8 @@ use items::Output;
 
 // The answer stands beside what it was read as, here and below, as `reply_said` and `heard_said` have the two.
 #[tactic(auto, using(crate::proofs::Texts::unwritten))]
-fn put_reply<const N: usize>(
-    out: &mut Output<N>,
-    reply: Option<Result<Meaning, Refusal>>,
-    answer: &[u8],
-)
-    requires { out.old.at + 773 ≤ N }
+fn put_reply(out: &mut Output<'_>, reply: Option<Result<Meaning, Refusal>>, answer: &[u8])
+    requires { out.old.at + 773 ≤ length out.old.out.now }
     ensures { Written (read_text (reply_said reply answer.now)) 773 out.old out.new }
 {
     match reply {
@@ -25,8 +21,8 @@ fn put_reply<const N: usize>(
 }
 
 #[tactic(auto, using(crate::proofs::Texts::unwritten))]
-fn put_step<const N: usize>(out: &mut Output<N>, step: Step)
-    requires { out.old.at + 6 ≤ N }
+fn put_step(out: &mut Output<'_>, step: Step)
+    requires { out.old.at + 6 ≤ length out.old.out.now }
     ensures { Written (step_text step) 6 out.old out.new }
 {
     match step {
@@ -37,8 +33,8 @@ fn put_step<const N: usize>(out: &mut Output<N>, step: Step)
     }
 }
 
-pub fn put_outcome<const N: usize>(out: &mut Output<N>, heard: Heard, answer: &[u8])
-    requires { out.old.at + 781 ≤ N }
+pub fn put_outcome(out: &mut Output<'_>, heard: Heard, answer: &[u8])
+    requires { out.old.at + 781 ≤ length out.old.out.now }
     ensures { Written (outcome_text (heard_said heard answer.now)) 781 out.old out.new }
 {
     out.append(b"R");

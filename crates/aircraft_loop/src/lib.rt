@@ -10,8 +10,8 @@ pub use playing::play;
 
 // What stands between two lines: what is on its way, the bytes of an answer, and the output.
 #[derive(Drop)]
-pub struct Between {
+pub struct Between<'a> {
     pub way: Underway,
     pub bytes: [u8; 65536],
-    pub out: Output<65536>,
+    pub out: Output<'a>,
 }

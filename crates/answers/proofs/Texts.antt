@@ -6,7 +6,12 @@ use Rattle.std.proofs.lemmas.List.Edits.{sets}
 use lib.Seq.{sets-eq}
 use Rattle.rules.specs.declared.Refusal.{Refusal}
 use Rattle.rules.specs.declared.Refusal.TheVariants.{Room, Size, State, Count, Over, Asleep, Full, Busy, Eight}
-use Rattle.rules.specs.Refusals.{refusal_number}
+use Rattle.rules.specs.Refusals.{Giving, refusal_number}
+use Rattle.rules.specs.World.{frames_in}
+use Rattle.rows.specs.Rows.{Said, refused, gave}
+use Rattle.frames.specs.declared.Frames.{Frames}
+use Rattle.lines.specs.Letters.{letter_a}
+use Rattle.answers.specs.Answers.{listing, said_line}
 use Rattle.items.proofs.Lists.{sets_join}
 
 -- a refusal's number has two digits at the most
@@ -30,3 +35,10 @@ both_eight l a b k h j =
     ∙ sets-eq (a ++ b) l 0 (omega arith)
     ∙ ap (λ (x : List ℕ). (a ++ b) ++ x) (drop_of_length-le l {i = 0 + length (a ++ b)} (omega arith))
     ∙ append-nil (a ++ b)
+
+-- the bytes of two frames, however a call went that lists them
+pub frames_said : (s : Said Giving) (f : Frames) (b : List ℕ) → b ≡ f.an03 ++ f.an47
+    → said_line (listing letter_a) s b ≡ said_line (listing letter_a) s (frames_in s f)
+unfolding said_line
+frames_said (refused n) f b e = refl
+frames_said (gave g) f b e = ap (said_line (listing letter_a) (gave g)) e

@@ -2,19 +2,18 @@
 // fails, nothing has changed.
 #![tactic(auto, unfolding(rows::specs::Rows::ran, rules::specs::Obey::reply_said, rules::specs::Obey::failure_number, rules::specs::Obey::obey_of, rules::specs::Obey::checks_of, rules::specs::Obey::done_by, rules::specs::Obey::initialised_pod, params::specs::Rules::write_of, params::specs::Rules::value_read))]
 
-ghost use Rattle.std.specs.Prelude.{◌≡◌, true};
+ghost use Rattle.std.specs.Prelude.{◌≡◌, true, cond};
 ghost use Rattle.rows.specs.Rows.{out};
-ghost use Rattle.tables.specs.Lent.{held, SameTables};
+ghost use Rattle.tables.specs.Tables.{starts};
 ghost use Rattle.rules.specs.State.{Lent, with_tables, sound_pod};
 ghost use Rattle.rules.specs.Obey.{reply_said, receives, obey_of, report_of};
-ghost use Rattle.commands.specs.Does.{Does, Awake};
+ghost use Rattle.commands.specs.Does.{Does, Awake, restarts};
 
 use crate::changes::{remaining_of, ring_of};
 use crate::fresh::fresh_pod;
 use blocks::Store;
 use packets::{Command, Fields, Report};
 use rules::{Exchange, Failure, Pod, Reply};
-use tables::Tables;
 
 // Check 7.
 fn awake(pod: &Pod) -> Result<(), Failure>
@@ -27,10 +26,9 @@ fn awake(pod: &Pod) -> Result<(), Failure>
     }
 }
 
-// The pod and the tables as from power, then awake with these fields.
-fn initialise(pod: &mut Pod, tables: &mut Tables, fields: Fields) -> Result<Reply, Failure>
-    ensures same { SameTables tables.old tables.new }
-    ensures does { (l : Lent) → out (reply_said result) pod.new (with_tables (held tables.new) l) ≡ obey_of (Command.Initialise fields) (with_tables (held tables.old) l) pod.old }
+// The pod as from power, then awake with these fields; the tables are put to their starts by who has them (`restarts`).
+fn initialise(pod: &mut Pod, fields: Fields) -> Result<Reply, Failure>
+    ensures { (l : Lent) → out (reply_said result) pod.new (cond (restarts (Command.Initialise fields) result) (with_tables starts l) l) ≡ obey_of (Command.Initialise fields) l pod.old }
 {
     if !packets::bounded(fields) {
         return Err(Failure::Outside);
@@ -38,7 +36,6 @@ fn initialise(pod: &mut Pod, tables: &mut Tables, fields: Fields) -> Result<Repl
     *pod = fresh_pod();
     pod.initialised = true;
     pod.fields = fields;
-    tables.restart();
     Ok(Reply::Success)
 }
 
@@ -102,13 +99,13 @@ fn shutdown(pod: &mut Pod) -> Result<Reply, Failure>
     Ok(Reply::Success)
 }
 
+// A command leaves all that is lent, but for the tables where it restarts them: these are for the caller to put to their starts.
 #[tactic(auto)]
-pub fn obey(pod: &mut Pod, tables: &mut Tables, command: Command) -> Result<Reply, Failure>
-    ensures same { SameTables tables.old tables.new }
-    ensures does { (l : Lent) → out (reply_said result) pod.new (with_tables (held tables.new) l) ≡ obey_of command (with_tables (held tables.old) l) pod.old }
+pub fn obey(pod: &mut Pod, command: Command) -> Result<Reply, Failure>
+    ensures { (l : Lent) → out (reply_said result) pod.new (cond (restarts command result) (with_tables starts l) l) ≡ obey_of command l pod.old }
 {
     match command {
-        Command::Initialise(fields) => initialise(pod, tables, fields),
+        Command::Initialise(fields) => initialise(pod, fields),
         Command::Status => status(pod),
         Command::Update(fields) => update(pod, fields),
         Command::Write(id, value) => write(pod, id, value),

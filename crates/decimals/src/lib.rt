@@ -4,7 +4,7 @@
 mod printing;
 mod reading;
 
-pub use printing::{Decimal, put_number, put_one, put_run, put_signed};
+pub use printing::{Decimal, put_number, put_one, put_run, put_signed, put_space};
 pub use reading::{below, numbers_in};
 
 // A number: whether a `-` stands before its digits, and its size. The sign stands beside it, since `-0` is no `0` (`number_in`).

@@ -4,8 +4,11 @@ use Rattle.std.specs.Prelude.{ℕ, ◌+◌, ◌≤◌, ◌≡◌, List, length}
 use Rattle.std.proofs.lemmas.List.Edits.{sets}
 use Rattle.items.specs.declared.output.Output.{Output}
 
--- a text written at a place: the characters, and the place behind them, with so many characters at the most
-pub record Written {N : ℕ} (text : List ℕ) (most : ℕ) (before after : Output N) : Type 0 where
-  pub characters : after.out ≡ sets before.out before.at text
+-- a text written at a place: the characters, and the place behind them, with so many characters at the most; the run is the one that was
+-- lent, and as long
+pub record Written (text : List ℕ) (most : ℕ) (before after : Output) : Type 0 where
+  pub characters : after.out.now ≡ sets before.out.now before.at text
   pub place : after.at ≡ before.at + length text
   pub short : length text ≤ most
+  pub room : length after.out.now ≡ length before.out.now
+  pub lent : after.out.ghost_name ≡ before.out.ghost_name

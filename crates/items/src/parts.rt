@@ -2,8 +2,7 @@
 ghost use Rattle.std.specs.Prelude.{◌≡◌, ◌+◌, ◌≤◌, length, take};
 ghost use Rattle.std.proofs.lemmas.List.Edits.{sets};
 
-// Copies a text to a place of any lent run, and answers the place behind it. `Output::append` does it where the place is kept beside; who has a
-// run of no fixed length prints into an output of their own, and copies what it has gathered (`gathered`, proofs/Behind.antt).
+// Copies a text to a place of any lent run, and answers the place behind it; `Output::append` does it where the place is kept beside.
 pub fn append(out: &mut [u8], at: usize, text: &[u8]) -> usize
     requires { at + length text.now ≤ length out.old }
     ensures value { result ≡ at + length text.now }

@@ -6,10 +6,10 @@ ghost use Rattle.items.specs.Output.{Written};
 
 use crate::Output;
 
-impl<const N: usize> Output<N> {
+impl<'a> Output<'a> {
     // Each byte after one space.
     pub fn items(&mut self, bytes: &[u8])
-        requires { self.old.at + 3 * length bytes.now ≤ N }
+        requires { self.old.at + 3 * length bytes.now ≤ length self.old.out.now }
         ensures { Written (spell bytes.now) (3 * length bytes.now) self.old self.new }
     {
         for b in bytes {
@@ -20,7 +20,7 @@ impl<const N: usize> Output<N> {
 
     // A letter and bytes; ` -` for none.
     pub fn bytes_line(&mut self, letter: u8, bytes: &[u8])
-        requires { self.old.at + 3 * length bytes.now + 4 ≤ N }
+        requires { self.old.at + 3 * length bytes.now + 4 ≤ length self.old.out.now }
         ensures { Written (bytes_line letter bytes.now) (3 * length bytes.now + 4) self.old self.new }
     {
         if bytes.is_empty() {
@@ -33,7 +33,7 @@ impl<const N: usize> Output<N> {
 
     // A letter and a word.
     pub fn word_line(&mut self, letter: u8, word: u16)
-        requires { self.old.at + 7 ≤ N }
+        requires { self.old.at + 7 ≤ length self.old.out.now }
         ensures { Written (word_line letter word) 7 self.old self.new }
     {
         let [a, b, c, d] = hexes::word(word);
@@ -42,7 +42,7 @@ impl<const N: usize> Output<N> {
 
     // A letter alone.
     pub fn bare_line(&mut self, letter: u8)
-        requires { self.old.at + 2 ≤ N }
+        requires { self.old.at + 2 ≤ length self.old.out.now }
         ensures { Written (bare_line letter) 2 self.old self.new }
     {
         self.append(&[letter, b'\n']);
@@ -50,7 +50,7 @@ impl<const N: usize> Output<N> {
 
     // A letter and the number of a refusal. The digits by hand: `Display` promises no text, and `decimals` stands over this crate.
     pub fn refused_line(&mut self, letter: u8, number: u8)
-        requires { (self.old.at + 6 ≤ N) × (number < 100) }
+        requires { (self.old.at + 6 ≤ length self.old.out.now) × (number < 100) }
         ensures { Written (refused_line letter number) 6 self.old self.new }
     {
         if number < 10 {

@@ -14,7 +14,7 @@ use Rattle.lab_sets.specs.declared.Thing.{Thing}
 use Rattle.lab_sets.specs.declared.Thing.TheVariants.{Room, Store as store, Table as table}
 use Rattle.lab_sets.specs.declared.Change.{Change}
 use Rattle.lab_sets.specs.declared.Change.TheVariants.{Cell, Value, Exchange, Address, Transfer, Thing as thing}
-use Rattle.lab_sets.specs.Setting.{part_set, load_set}
+use Rattle.lab_sets.specs.Setting.{part_after, load_after}
 use Rattle.lab_lines.specs.Asked.{change_in}
 use Rattle.items.specs.declared.output.Output.{Output}
 use Rattle.items.specs.Output.{Written}
@@ -54,15 +54,6 @@ sizes_set (Some (Address g)) s = s
 sizes_set (Some (Transfer t)) s = s
 sizes_set (Some (thing t n)) s = size_set t n s
 
--- the pod and the words of a load after a line, as they were where it asks for nothing
-abbrev pub part_after : Option Change → Pod → Pod
-part_after None p = p
-part_after (Some c) p = part_set c p
-
-abbrev pub load_after : Option Change → List ℕ → List ℕ
-load_after None l = l
-load_after (Some c) l = load_set c l
-
 -- "prints `?` and sets nothing", `X` or `L`
 unfoldable pub letter_of : Option Change → ℕ
 letter_of None = question
@@ -101,7 +92,7 @@ abbrev pub with_load : List ℕ → Memory → Memory
 with_load l m = memory m.room m.priority m.ordinary m.five m.six m.seven l
 
 -- and so a line of its own is answered, of the memory only the words of a load may change; no line is longer than 1,200 characters
-pub record OwnAnswered {N : ℕ} (t : List ℕ) (p p' : Pod) (s s' : Sizes) (m m' : Memory) (o o' : Output N) : Type 0 where
+pub record OwnAnswered (t : List ℕ) (p p' : Pod) (s s' : Sizes) (m m' : Memory) (o o' : Output) : Type 0 where
   pub pod : p' ≡ (own_of t p s (shown_in m)).pod
   pub sizes : s' ≡ (own_of t p s (shown_in m)).sizes
   pub load : m'.load ≡ (own_of t p s (shown_in m)).load

@@ -1,6 +1,6 @@
 -- "X name number ..": a part of the state set, whatever bound it then breaks.
 -- Assumes nothing.
-use Rattle.std.specs.Prelude.{ℕ, ◌-◌, Bool, cond, List, [], ◌∷◌, eqb, ltb, ℤ, get_or, set, replicate}
+use Rattle.std.specs.Prelude.{ℕ, ◌-◌, Bool, true, false, cond, List, [], ◌∷◌, eqb, ltb, ℤ, get_or, set, replicate, Option, Some, None}
 use Rattle.blocks.specs.declared.Ring.{Ring}
 use Rattle.packets.specs.declared.Fields.{Fields}
 use Rattle.params.specs.declared.Params.{Params}
@@ -97,3 +97,22 @@ load_set (Exchange x) l = l
 load_set (Address g) l = l
 load_set (Transfer t) l = replicate 64 0
 load_set (thing t n) l = l
+
+-- whether a part of the state is asked for; a line that asks for nothing is none
+abbrev pub is_part : Option Change → Bool
+is_part None = false
+is_part (Some (cell c n)) = true
+is_part (Some (Value id v)) = true
+is_part (Some (Exchange x)) = true
+is_part (Some (Address g)) = true
+is_part (Some (Transfer t)) = true
+is_part (Some (thing t n)) = false
+
+-- the pod and the words of a load after a line, as they were where it asks for nothing
+abbrev pub part_after : Option Change → Pod → Pod
+part_after None p = p
+part_after (Some c) p = part_set c p
+
+abbrev pub load_after : Option Change → List ℕ → List ℕ
+load_after None l = l
+load_after (Some c) l = load_set c l

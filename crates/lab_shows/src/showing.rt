@@ -13,8 +13,8 @@ use items::Output;
 use rules::Pod;
 
 // The numbers of the state up to the marks of the parameters ..
-fn put_front<const N: usize>(out: &mut Output<N>, pod: &Pod)
-    requires { out.old.at + 726 ≤ N }
+fn put_front(out: &mut Output<'_>, pod: &Pod)
+    requires { out.old.at + 726 ≤ length out.old.out.now }
     ensures { Written (spelled (front_numbers pod.now)) 726 out.old out.new }
 {
     put_run(out, &first_numbers(pod));
@@ -23,8 +23,8 @@ fn put_front<const N: usize>(out: &mut Output<N>, pod: &Pod)
 }
 
 // .. and those behind.
-fn put_back<const N: usize>(out: &mut Output<N>, pod: &Pod)
-    requires { out.old.at + 358 ≤ N }
+fn put_back(out: &mut Output<'_>, pod: &Pod)
+    requires { out.old.at + 358 ≤ length out.old.out.now }
     ensures { Written (spelled (back_numbers pod.now)) 358 out.old out.new }
 {
     put_run(out, &port_numbers(pod));
@@ -33,8 +33,8 @@ fn put_back<const N: usize>(out: &mut Output<N>, pod: &Pod)
 }
 
 // .. and the output half of the pipe, behind the checks ..
-fn put_output<const N: usize>(out: &mut Output<N>, pod: &Pod)
-    requires { out.old.at + 47 ≤ N }
+fn put_output(out: &mut Output<'_>, pod: &Pod)
+    requires { out.old.at + 47 ≤ length out.old.out.now }
     ensures { Written (shown_output pod.now) 47 out.old out.new }
 {
     let output = pod.pipe.output;
@@ -43,8 +43,8 @@ fn put_output<const N: usize>(out: &mut Output<N>, pod: &Pod)
 }
 
 // .. and the kept list, with the line's end.
-fn put_list<const N: usize>(out: &mut Output<N>, pod: &Pod)
-    requires { out.old.at + 33 ≤ N }
+fn put_list(out: &mut Output<'_>, pod: &Pod)
+    requires { out.old.at + 33 ≤ length out.old.out.now }
     ensures { Written (shown_list pod.now) 33 out.old out.new }
 {
     put_run(out, &pod.params.missing);
@@ -52,9 +52,9 @@ fn put_list<const N: usize>(out: &mut Output<N>, pod: &Pod)
 }
 
 // The state, and the memory as it is lent.
-pub fn show<const N: usize>(pod: &Pod, lent: &Lent, out: &mut Output<N>)
+pub fn show(pod: &Pod, lent: &Lent, out: &mut Output<'_>)
     requires sizes { (length lent.now.five.now ≤ 128) × (length lent.now.six.now ≤ 128) × (length lent.now.seven.now ≤ 128) }
-    requires room { out.old.at + 1200 ≤ N }
+    requires room { out.old.at + 1200 ≤ length out.old.out.now }
     ensures { Written (shown_text pod.now (lent_of lent.now)) 1200 out.old out.new }
 {
     out.append(b"V");

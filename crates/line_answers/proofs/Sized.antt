@@ -2,8 +2,9 @@
 -- Assumes nothing.
 use Prim.Native.Nat.{ℕ, ◌+◌, ◌≤◌}
 use native.Mathlib.Omega.{arith}
-use mathlib.Core.Path.{◌≡◌, refl, sym, subst}
+use mathlib.Core.Path.{◌≡◌, refl, sym, subst, ◌∙◌}
 use mathlib.Core.List.{List, []}
+use lib.ListN.{length}
 use Rattle.std.proofs.Common.{Option, Some, None}
 use borrow.Author.Tests.{leb-true}
 use Rattle.rows.proofs.Bool.{by-test}
@@ -17,7 +18,7 @@ use Rattle.lines.specs.declared.Line.TheVariants.{Packet, Deadline, Put, Command
 use Rattle.lines.specs.Asked.{Asked, other}
 use Rattle.line_calls.specs.declared.Sizes.{Sizes}
 use Rattle.line_calls.specs.Calls.{heard, call_of}
-use Rattle.line_calls.specs.Memory.{right_sizes, SizesFit}
+use Rattle.line_calls.specs.Memory.{right_sizes, Within}
 use Rattle.lab_sets.specs.declared.Thing.{Thing}
 use Rattle.lab_sets.specs.declared.Thing.TheVariants.{Room, Store as store, Table as table}
 use Rattle.lab_lines.specs.Ranges.{right_size}
@@ -27,7 +28,7 @@ use Rattle.lab_calls.specs.Own.{size_set, sizes_set, is_show, Leaves, own_of, sh
 use Rattle.line_answers.specs.declared.Bench.{Bench}
 use Rattle.line_answers.specs.declared.Program.{Program}
 use Rattle.line_answers.specs.Lines.{asking_of, sizes_if, sizes_after}
-use Rattle.line_answers.specs.Turns.{TextAnswered, own, call}
+use Rattle.line_answers.specs.Turns.{TextAnswered, own, call, Ready}
 
 -- a line that is a call
 pub sizes_again : (l : Line) (s : Sizes) (bs ws : List ℕ) → sizes_after (heard l bs ws) s ≡ right_sizes
@@ -52,19 +53,19 @@ unfolding sizes_after call_of
 sizes_stay s = refl
 
 -- the right sizes are within the arrays
-pub within_right : SizesFit right_sizes
+pub within_right : Within right_sizes
 within_right =
     record { room = omega arith; priority = omega arith; ordinary = omega arith; five = omega arith; six = omega arith; seven = omega arith }
 
-within_if : (c : Option Call) (s : Sizes) → SizesFit s → SizesFit (sizes_if c s)
+within_if : (c : Option Call) (s : Sizes) → Within s → Within (sizes_if c s)
 within_if None s w = w
 within_if (Some c) s w = within_right
 
-within_after : (a : Asked) (s s' : Sizes) → s' ≡ sizes_after a s → SizesFit s → SizesFit s'
+within_after : (a : Asked) (s s' : Sizes) → s' ≡ sizes_after a s → Within s → Within s'
 unfolding sizes_after
-within_after a s s' e w = subst (λ (x : Sizes). SizesFit x) (sym e) (within_if (call_of a []) s w)
+within_after a s s' e w = subst (λ (x : Sizes). Within x) (sym e) (within_if (call_of a []) s w)
 
-within_thing : (t : Thing) (n : ℕ) (s : Sizes) → n ≤ right_size t + 1024 → SizesFit s → SizesFit (size_set t n s)
+within_thing : (t : Thing) (n : ℕ) (s : Sizes) → n ≤ right_size t + 1024 → Within s → Within (size_set t n s)
 within_thing Room n s h w =
     record { room = h; priority = w.priority; ordinary = w.ordinary; five = w.five; six = w.six; seven = w.seven }
 within_thing (store Priority) n s h w =
@@ -78,18 +79,26 @@ within_thing (table Six) n s h w =
 within_thing (table Seven) n s h w =
     record { room = w.room; priority = w.priority; ordinary = w.ordinary; five = w.five; six = w.six; seven = h }
 
-within_set : (t : List ℕ) (s : Sizes) → SizesFit s → SizesFit (sizes_set (change_in t) s)
+within_set : (t : List ℕ) (s : Sizes) → Within s → Within (sizes_set (change_in t) s)
 unfolding sizes_set
 within_set t s w =
-    asked_case (λ c. SizesFit (sizes_set c s)) w (λ c n e. w) (λ id v. w) (λ x. w) (λ g. w) (λ t. w)
+    asked_case (λ c. Within (sizes_set c s)) w (λ c n e. w) (λ id v. w) (λ x. w) (λ g. w) (λ t. w)
     (λ x n e. within_thing x n s (leb-true n (right_size x + 1024) e) w) t
 
-within_own : (t : List ℕ) (p : Pod) (s : Sizes) (l : Lent) → SizesFit s → SizesFit (own_of t p s l).sizes
+within_own : (t : List ℕ) (p : Pod) (s : Sizes) (l : Lent) → Within s → Within (own_of t p s l).sizes
 unfolding own_of
-within_own t p s l w = by-test (λ (x : Leaves). SizesFit x.sizes) (is_show t) (λ _. w) (λ _. within_set t s w)
+within_own t p s l w = by-test (λ (x : Leaves). Within x.sizes) (is_show t) (λ _. w) (λ _. within_set t s w)
 
 -- whatever a text is, no size is over that of the arrays
-pub within_answered : {p : Program} {t : List ℕ} {b b' : Bench} → TextAnswered p t b b' → SizesFit b.sizes → SizesFit b'.sizes
+within_answered : {p : Program} {t : List ℕ} {b b' : Bench} → TextAnswered p t b b' → Within b.sizes → Within b'.sizes
 within_answered {p} {t} {b} {b'} (own e a) w =
-    subst (λ (x : Sizes). SizesFit x) (sym a.answered.sizes) (within_own t b.pod b.sizes (shown_in b.memory) w)
+    subst (λ (x : Sizes). Within x) (sym a.answered.sizes) (within_own t b.pod b.sizes (shown_in b.memory) w)
 within_answered {p} {t} {b} {b'} (call e a) w = within_after (asking_of p t).asked b.sizes b'.sizes a.sizes w
+
+-- and the output stays as long
+room_answered : {p : Program} {t : List ℕ} {b b' : Bench} → TextAnswered p t b b' → length b'.out.out.now ≡ length b.out.out.now
+room_answered (own e a) = a.answered.printed.room
+room_answered (call e a) = a.answered.answered.printed.room
+
+pub ready_answered : {p : Program} {t : List ℕ} {b b' : Bench} → TextAnswered p t b b' → Ready b → Ready b'
+ready_answered a r = record { within = within_answered a r.within; room = room_answered a ∙ r.room }

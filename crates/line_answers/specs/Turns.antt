@@ -3,7 +3,7 @@
 use Rattle.std.specs.Prelude.{ℕ, suc, ◌≡◌, true, false, List, length}
 use Rattle.lines.specs.Cut.{before}
 use Rattle.answers.specs.Answers.{line_text}
-use Rattle.line_calls.specs.Memory.{lent_at}
+use Rattle.line_calls.specs.Memory.{lent_at, Within}
 use Rattle.line_calls.specs.Promise.{step_of, LentAnswered}
 use Rattle.lab_calls.specs.Own.{own_of, shown_in, OwnAnswered}
 use Rattle.line_answers.specs.declared.Program.{Program}
@@ -35,3 +35,8 @@ pub data TextAnswered (p : Program) (t : List ℕ) (b b' : Bench) : Type 0 where
 -- a text answered, of the program that it stays: a line may change the pod, the sizes, the memory that is lent, and the output
 abbrev pub AnswersText : List ℕ → Bench → Bench → Type 0
 AnswersText text b b' = TextAnswered b.program text b b'
+
+-- what holds between two lines: no size is over that of the memory, and the output has 65,536 places
+pub record Ready (b : Bench) : Type 0 where
+  pub within : Within b.sizes
+  pub room : length b.out.out.now ≡ 65536

@@ -1,28 +1,28 @@
 // A line's answer, and what is gathered written: the loop over the lines is that of `pieces`.
 ghost use Rattle.std.specs.Prelude.{◌≡◌, ◌+◌, ◌≤◌, true, List, ℕ, leb, length};
-ghost use Rattle.line_calls.specs.Memory.{SizesFit};
-ghost use Rattle.line_answers.specs.Turns.{CallAnswered, TextAnswered, AnswersText};
+ghost use Rattle.line_calls.specs.Memory.{Within};
+ghost use Rattle.line_answers.specs.Turns.{CallAnswered, TextAnswered, AnswersText, Ready};
 
 use crate::Bench;
 use crate::asking::{asked, next_sizes, own};
 use lab_calls::own_line;
-use line_calls::answer;
-use pieces::{Answers, flush};
+use line_calls::answer_in;
+use pieces::{Answers, flush_all};
 
 // No line of output has more than 1,200 characters: with fewer left, what is gathered is written first.
 const ENOUGH: usize = 64336;
 
 // A text's call and its answer.
-// `SizesFit` is no invariant of `Sizes`: `size_set` of lab_calls gives a size any number, since `in_range` holds of each, and only the
+// `Within` is no invariant of `Sizes`: `size_set` of lab_calls gives a size any number, since `in_range` holds of each, and only the
 // reading of a line bounds it. A text is a slice, so the bound of its length is a clause, here and below, as in `Answers`.
-fn called(text: &[u8], bench: &mut Bench)
+fn called(text: &[u8], bench: &mut Bench<'_>)
     requires text_len_bound { length text.now ≤ 196606 }
-    requires within { SizesFit bench.old.sizes }
-    requires at_bound { bench.old.out.at + 784 ≤ 65536 }
+    requires within { Within bench.old.sizes }
+    requires at_bound { bench.old.out.at + 784 ≤ length bench.old.out.out.now }
     ensures { CallAnswered bench.old.program text.now bench.old bench.new }
 {
     let line = asked(bench.program, text, &mut bench.bytes, &mut bench.words);
-    answer(
+    answer_in(
         line,
         &mut bench.pod,
         bench.sizes,
@@ -35,10 +35,10 @@ fn called(text: &[u8], bench: &mut Bench)
 }
 
 // A text answered: a line of lab's own, or a call.
-pub fn answered(text: &[u8], bench: &mut Bench)
+pub fn answered(text: &[u8], bench: &mut Bench<'_>)
     requires text_len_bound { length text.now ≤ 196606 }
-    requires within { SizesFit bench.old.sizes }
-    requires at_bound { bench.old.out.at + 1200 ≤ 65536 }
+    requires within { Within bench.old.sizes }
+    requires at_bound { bench.old.out.at + 1200 ≤ length bench.old.out.out.now }
     ensures { TextAnswered bench.old.program text.now bench.old bench.new }
 {
     if own(bench.program, text) {
@@ -46,7 +46,12 @@ pub fn answered(text: &[u8], bench: &mut Bench)
             text,
             &mut bench.pod,
             &mut bench.sizes,
-            &mut bench.memory,
+            &bench.memory.priority,
+            &bench.memory.ordinary,
+            &bench.memory.five,
+            &bench.memory.six,
+            &bench.memory.seven,
+            &mut bench.memory.load,
             &mut bench.out,
         );
     }
@@ -55,12 +60,14 @@ pub fn answered(text: &[u8], bench: &mut Bench)
 
 // Beside the impl of `aircraft_loop` no plainer as one: `ENOUGH` is of the longest line that a program writes, the bodies are a line
 // each, and what `write` keeps is named by the fields of this state.
-impl Answers for Bench {
+impl<'a> Answers for Bench<'a> {
     ghost answers = { AnswersText };
 
-    ghost Fine = { λ b. SizesFit b.sizes };
+    ghost Fine = { Ready };
 
     ghost room = { λ b. leb b.out.at 64336 };
+
+    ghost gathered = { λ b. b.out.at };
 
     fn has_room(&self) -> bool {
         self.out.at <= ENOUGH
@@ -72,8 +79,8 @@ impl Answers for Bench {
 
     // The pod, the sizes and the memory stay so from piece to piece.
     fn write(&mut self) -> bool
-        requires { SizesFit self.old.sizes }
-        ensures fine { SizesFit self.new.sizes }
+        requires { Ready self.old }
+        ensures fine { Ready self.new }
         ensures has_room { leb self.new.out.at 64336 ≡ true }
         ensures program { self.new.program ≡ self.old.program }
         ensures pod { self.new.pod ≡ self.old.pod }
@@ -81,6 +88,6 @@ impl Answers for Bench {
         ensures memory { self.new.memory ≡ self.old.memory }
         ensures written { self.new.out.at ≡ 0 }
     {
-        flush(&mut self.out)
+        flush_all(&mut self.out)
     }
 }

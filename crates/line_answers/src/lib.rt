@@ -21,12 +21,12 @@ pub enum Program {
 // What stands between two lines of a program: what a line's bytes and words are read into, the pod, how much of each thing is lent to the
 // next call, the memory that is lent, and the output.
 #[derive(Drop)]
-pub struct Bench {
+pub struct Bench<'a> {
     pub program: Program,
     pub bytes: [u8; 65536],
     pub words: [u16; 65536],
     pub pod: Pod,
     pub sizes: Sizes,
     pub memory: Memory,
-    pub out: Output<65536>,
+    pub out: Output<'a>,
 }

@@ -34,49 +34,40 @@ pub record PartsKept (s : Sizes) (m parts : Memory) : Type 0 where
   pub six : length parts.six ≡ length (take s.six m.six)
   pub seven : length parts.seven ≡ length (take s.seven m.seven)
 
--- the memory of a program has these sizes
-pub record Whole (m : Memory) : Type 0 where
-  pub room : length m.room ≡ 1284
-  pub priority : length m.priority ≡ 5120
-  pub ordinary : length m.ordinary ≡ 33792
-  pub five : length m.five ≡ 1088
-  pub six : length m.six ≡ 1152
-  pub seven : length m.seven ≡ 1088
-
 abbrev pub come_back : Sizes → Memory → Memory → Memory
 come_back s m parts =
     memory (parts.room ++ drop s.room m.room) (parts.priority ++ drop s.priority m.priority)
     (parts.ordinary ++ drop s.ordinary m.ordinary) (parts.five ++ drop s.five m.five) (parts.six ++ drop s.six m.six)
     (parts.seven ++ drop s.seven m.seven) parts.load
 
-module _ (s : Sizes) (m parts : Memory) (f : SizesFit s) (w : Whole m) (k : PartsKept s m parts) where
+module _ (s : Sizes) (m parts : Memory) (f : SizesFit s m) (k : PartsKept s m parts) where
   lent_is : lent_at s (come_back s m parts) ≡ parts
   lent_is = λ i.
-      memory (part_is s.room m.room parts.room (omega (arith, f.room, w.room)) k.room i)
-      (part_is s.priority m.priority parts.priority (omega (arith, f.priority, w.priority)) k.priority i)
-      (part_is s.ordinary m.ordinary parts.ordinary (omega (arith, f.ordinary, w.ordinary)) k.ordinary i)
-      (part_is s.five m.five parts.five (omega (arith, f.five, w.five)) k.five i)
-      (part_is s.six m.six parts.six (omega (arith, f.six, w.six)) k.six i)
-      (part_is s.seven m.seven parts.seven (omega (arith, f.seven, w.seven)) k.seven i)
+      memory (part_is s.room m.room parts.room f.room k.room i)
+      (part_is s.priority m.priority parts.priority f.priority k.priority i)
+      (part_is s.ordinary m.ordinary parts.ordinary f.ordinary k.ordinary i)
+      (part_is s.five m.five parts.five f.five k.five i)
+      (part_is s.six m.six parts.six f.six k.six i)
+      (part_is s.seven m.seven parts.seven f.seven k.seven i)
       parts.load
 
   behind_is : behind s (come_back s m parts) ≡ behind s m
   behind_is = λ i.
-      memory (rest_is s.room m.room parts.room (omega (arith, f.room, w.room)) k.room i)
-      (rest_is s.priority m.priority parts.priority (omega (arith, f.priority, w.priority)) k.priority i)
-      (rest_is s.ordinary m.ordinary parts.ordinary (omega (arith, f.ordinary, w.ordinary)) k.ordinary i)
-      (rest_is s.five m.five parts.five (omega (arith, f.five, w.five)) k.five i)
-      (rest_is s.six m.six parts.six (omega (arith, f.six, w.six)) k.six i)
-      (rest_is s.seven m.seven parts.seven (omega (arith, f.seven, w.seven)) k.seven i)
+      memory (rest_is s.room m.room parts.room f.room k.room i)
+      (rest_is s.priority m.priority parts.priority f.priority k.priority i)
+      (rest_is s.ordinary m.ordinary parts.ordinary f.ordinary k.ordinary i)
+      (rest_is s.five m.five parts.five f.five k.five i)
+      (rest_is s.six m.six parts.six f.six k.six i)
+      (rest_is s.seven m.seven parts.seven f.seven k.seven i)
       []
 
   -- what is answered over the parts is answered over the memory that they come back to
-  pub answered_lent : {N : ℕ} (a : Asked) (p q : Pod) (o o' : Output N) → LineAnswered a p q (lent_at s m) parts o o'
+  pub answered_lent : (a : Asked) (p q : Pod) (o o' : Output) → LineAnswered a p q (lent_at s m) parts o o'
       → LentAnswered a p q s m (come_back s m parts) o o'
   answered_lent a p q o o' l =
       record { answered = subst (λ (x : Memory). LineAnswered a p q (lent_at s m) x o o') (sym lent_is) l; rest = behind_is }
 
 -- what is asked in other words
-pub lent_as : {N : ℕ} {p q : Pod} {s : Sizes} {m m' : Memory} {o o' : Output N} {a b : Asked} → a ≡ b → LentAnswered b p q s m m' o o'
+pub lent_as : {p q : Pod} {s : Sizes} {m m' : Memory} {o o' : Output} {a b : Asked} → a ≡ b → LentAnswered b p q s m m' o o'
     → LentAnswered a p q s m m' o o'
 lent_as {p = p} {q = q} {s = s} {m = m} {m' = m'} {o = o} {o' = o'} e h = subst (λ (x : Asked). LentAnswered x p q s m m' o o') (sym e) h

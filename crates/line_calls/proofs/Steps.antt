@@ -44,10 +44,10 @@ abbrev pub with_load_at : List ℕ → Memory → Memory
 with_load_at load m = memory m.room m.priority m.ordinary m.five m.six m.seven load
 
 -- what is asked in other words
-pub answered_as : {N : ℕ} {p q : Pod} {m m' : Memory} {o o' : Output N} {a b : Asked} → a ≡ b → LineAnswered b p q m m' o o' → LineAnswered a p q m m' o o'
+pub answered_as : {p q : Pod} {m m' : Memory} {o o' : Output} {a b : Asked} → a ≡ b → LineAnswered b p q m m' o o' → LineAnswered a p q m m' o o'
 answered_as {p = p} {q = q} {m = m} {m' = m'} {o = o} {o' = o'} e h = subst (λ (x : Asked). LineAnswered x p q m m' o o') (sym e) h
 
-module _ {N : ℕ} (p : Pod) (m : Memory) (o o' : Output N) (s : Said Giving) (q : Pod) where
+module _ (p : Pod) (m : Memory) (o o' : Output) (s : Said Giving) (q : Pod) where
   abbrev w : World
   w = world p (lent_in m)
 
@@ -156,6 +156,6 @@ module _ {N : ℕ} (p : Pod) (m : Memory) (o o' : Output N) (s : Said Giving) (q
   by_status e t = answered_by status m [] _ 7 (omega arith) (ap (λ x. over_desk x w) (sym e)) refl refl t
 
 -- a line that calls nothing
-pub by_other : {N : ℕ} (p : Pod) (m : Memory) (o o' : Output N) → Written (said_line (plain question) (gave done) []) 2 o o' → LineAnswered other p p m m o o'
+pub by_other : (p : Pod) (m : Memory) (o o' : Output) → Written (said_line (plain question) (gave done) []) 2 o o' → LineAnswered other p p m m o o'
 unfolding line_step call_of line_text form_of room_after
 by_other p m o o' t = record { world = refl; room = refl; printed = longer 784 (omega arith) t }

@@ -1,6 +1,6 @@
 -- The memory of a program, which it lends to the calls.
 -- Assumes nothing.
-use Rattle.std.specs.Prelude.{ℕ, ◌*◌, ◌≤◌, List, [], take, drop}
+use Rattle.std.specs.Prelude.{ℕ, ◌*◌, ◌≤◌, List, [], length, take, drop}
 use Rattle.blocks.specs.declared.Store.TheVariants.{Priority, Ordinary}
 use Rattle.blocks.specs.Stores.{capacity_of}
 use Rattle.orders.specs.declared.Table.TheVariants.{Five, Six, Seven}
@@ -35,7 +35,16 @@ behind s m =
     (drop s.six m.six) (drop s.seven m.seven) []
 
 -- no size is over that of the thing
-pub record SizesFit (s : Sizes) : Type 0 where
+pub record SizesFit (s : Sizes) (m : Memory) : Type 0 where
+  pub room : s.room ≤ length m.room
+  pub priority : s.priority ≤ length m.priority
+  pub ordinary : s.ordinary ≤ length m.ordinary
+  pub five : s.five ≤ length m.five
+  pub six : s.six ≤ length m.six
+  pub seven : s.seven ≤ length m.seven
+
+-- no size is over that of a program's memory
+pub record Within (s : Sizes) : Type 0 where
   pub room : s.room ≤ 1284
   pub priority : s.priority ≤ 5120
   pub ordinary : s.ordinary ≤ 33792

@@ -1,6 +1,6 @@
 -- What is promised of a line's call and answer.
 -- Assumes nothing.
-use Rattle.std.specs.Prelude.{ℕ, ◌≡◌}
+use Rattle.std.specs.Prelude.{◌≡◌}
 use Rattle.rules.specs.declared.Pod.{Pod}
 use Rattle.rules.specs.World.{Stepped, world}
 use Rattle.lines.specs.Asked.{Asked}
@@ -17,12 +17,12 @@ abbrev pub step_of : Asked → Pod → Memory → Stepped
 step_of a p m = line_step a m.room (world p (lent_in m))
 
 -- the world after a line, the answer room and the text printed are those of the rules; no line is longer than 784 characters
-pub record LineAnswered {N : ℕ} (a : Asked) (p p' : Pod) (m m' : Memory) (o o' : Output N) : Type 0 where
+pub record LineAnswered (a : Asked) (p p' : Pod) (m m' : Memory) (o o' : Output) : Type 0 where
   pub world : world p' (lent_in m') ≡ (step_of a p m).world
   pub room : m'.room ≡ room_after a m.room (step_of a p m).told
   pub printed : Written (line_text a (step_of a p m).told) 784 o o'
 
 -- and so they are where each thing is lent at a size; what lies behind it stays
-pub record LentAnswered {N : ℕ} (a : Asked) (p p' : Pod) (s : Sizes) (m m' : Memory) (o o' : Output N) : Type 0 where
+pub record LentAnswered (a : Asked) (p p' : Pod) (s : Sizes) (m m' : Memory) (o o' : Output) : Type 0 where
   pub answered : LineAnswered a p p' (lent_at s m) (lent_at s m') o o'
   pub rest : behind s m' ≡ behind s m

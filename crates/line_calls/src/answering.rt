@@ -1,7 +1,7 @@
 // A line answered: its call is lent the memory at the sizes that are asked for.
-ghost use Rattle.std.specs.Prelude.{◌≡◌, ◌+◌, ◌≤◌};
-ghost use Rattle.line_calls.specs.Calls.{heard, heard_line};
-ghost use Rattle.line_calls.specs.Memory.{memory, right_sizes, SizesFit};
+ghost use Rattle.std.specs.Prelude.{◌≡◌, ◌+◌, ◌≤◌, length};
+ghost use Rattle.line_calls.specs.Calls.{heard_line};
+ghost use Rattle.line_calls.specs.Memory.{memory, right_sizes, SizesFit, Within};
 ghost use Rattle.line_calls.specs.Promise.{LentAnswered};
 
 use crate::calling::reply;
@@ -26,25 +26,61 @@ pub fn right_sizes() -> Sizes
 
 // A line's call and its answer, each thing lent from its start, so much of it as its size says. A line that calls nothing is answered
 // with `?`.
-// `SizesFit` is a clause and no invariant of `Sizes`: `size_set` of lab_calls gives a size any number, since `in_range` holds of each.
+pub fn answer(
+    line: Option<Line>,
+    pod: &mut Pod,
+    sizes: Sizes,
+    bytes: &[u8],
+    words: &[u16],
+    room: &mut [u8],
+    priority: &mut [u8],
+    ordinary: &mut [u8],
+    five: &mut [u16],
+    six: &mut [u16],
+    seven: &mut [u16],
+    load: &mut [u16; 64],
+    out: &mut Output<'_>,
+)
+    requires sizes_fit { SizesFit sizes (memory room.old priority.old ordinary.old five.old six.old seven.old load.old) }
+    requires at_in_bounds { out.old.at + 784 ≤ length out.old.out.now }
+    ensures { LentAnswered (heard_line line bytes.now words.now) pod.old pod.new sizes (memory room.old priority.old ordinary.old five.old six.old seven.old load.old) (memory room.new priority.new ordinary.new five.new six.new seven.new load.new) out.old out.new }
+{
+    let Some(line) = line else {
+        return out.bare_line(b'?');
+    };
+    reply(
+        line,
+        pod,
+        bytes,
+        words,
+        &mut room[..sizes.room],
+        &mut priority[..sizes.priority],
+        &mut ordinary[..sizes.ordinary],
+        &mut five[..sizes.five],
+        &mut six[..sizes.six],
+        &mut seven[..sizes.seven],
+        load,
+        out,
+    );
+}
+
+// The same of a program's memory.
+// `Within` is a clause and no invariant of `Sizes`: `size_set` of lab_calls gives a size any number, since `in_range` holds of each.
 // What is lent stands together in `Bench` of line_answers, a crate above; here `LentAnswered` says of each what becomes of it.
-pub fn answer<const N: usize>(
+pub fn answer_in(
     line: Option<Line>,
     pod: &mut Pod,
     sizes: Sizes,
     bytes: &[u8],
     words: &[u16],
     memory: &mut Memory,
-    out: &mut Output<N>,
+    out: &mut Output<'_>,
 )
-    requires sizes_fit { SizesFit sizes }
-    requires at_in_bounds { out.old.at + 784 ≤ N }
+    requires within { Within sizes }
+    requires at_in_bounds { out.old.at + 784 ≤ length out.old.out.now }
     ensures { LentAnswered (heard_line line bytes.now words.now) pod.old pod.new sizes memory.old memory.new out.old out.new }
 {
-    let Some(line) = line else {
-        return out.bare_line(b'?');
-    };
-    sized(
+    parted(
         line,
         pod,
         sizes,
@@ -61,10 +97,10 @@ pub fn answer<const N: usize>(
     );
 }
 
-// The memory's arrays are lent whole and sliced here: a part of a field that lies behind a reference, lent as a slice, would come back
+// The memory's arrays are lent whole, and are slices from here on: a field that lies behind a reference, lent as a slice, would come back
 // as any list.
-fn sized<const N: usize>(
-    line: Line,
+fn parted(
+    line: Option<Line>,
     pod: &mut Pod,
     sizes: Sizes,
     bytes: &[u8],
@@ -76,24 +112,13 @@ fn sized<const N: usize>(
     six: &mut [u16; 1152],
     seven: &mut [u16; 1088],
     load: &mut [u16; 64],
-    out: &mut Output<N>,
+    out: &mut Output<'_>,
 )
-    requires sizes_fit { SizesFit sizes }
-    requires at_in_bounds { out.old.at + 784 ≤ N }
-    ensures { LentAnswered (heard line bytes.now words.now) pod.old pod.new sizes (memory room.old priority.old ordinary.old five.old six.old seven.old load.old) (memory room.new priority.new ordinary.new five.new six.new seven.new load.new) out.old out.new }
+    requires within { Within sizes }
+    requires at_in_bounds { out.old.at + 784 ≤ length out.old.out.now }
+    ensures { LentAnswered (heard_line line bytes.now words.now) pod.old pod.new sizes (memory room.old priority.old ordinary.old five.old six.old seven.old load.old) (memory room.new priority.new ordinary.new five.new six.new seven.new load.new) out.old out.new }
 {
-    reply(
-        line,
-        pod,
-        bytes,
-        words,
-        &mut room[..sizes.room],
-        &mut priority[..sizes.priority],
-        &mut ordinary[..sizes.ordinary],
-        &mut five[..sizes.five],
-        &mut six[..sizes.six],
-        &mut seven[..sizes.seven],
-        load,
-        out,
+    answer(
+        line, pod, sizes, bytes, words, room, priority, ordinary, five, six, seven, load, out,
     );
 }

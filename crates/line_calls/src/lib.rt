@@ -4,7 +4,7 @@
 mod answering;
 mod calling;
 
-pub use answering::{answer, right_sizes};
+pub use answering::{answer, answer_in, right_sizes};
 
 // The memory of a program, which it lends to the calls. Each thing is larger than what they ask for, so that it can be lent at other
 // sizes too.

@@ -3,12 +3,13 @@ use crate::Program;
 use crate::turns::start;
 use pieces::run;
 
-// The pieces of input, a line that is held, and what stands between two lines.
-// Two buffers and `run`, which every program has from `pieces`: one `play` for all would still be handed the state, and would have to
+// The pieces of input, a line that is held, the output's places, and what stands between two lines.
+// Three buffers and `run`, which every program has from `pieces`: one `play` for all would still be handed the state, and would have to
 // require what `run` requires of it.
 pub fn play(rt: &HostRuntime, program: Program) {
     let mut piece = [0u8; 65536];
     let mut line = [0u8; 196606];
-    let mut bench = start(program);
+    let mut out = [0u8; 65536];
+    let mut bench = start(program, &mut out);
     run(&mut piece, &mut line, &mut bench, &mut rt.stdin());
 }

@@ -34,7 +34,7 @@ module _ {S : Type 0} (A : List ℕ → S → S → Type 0) (piece : List ℕ) (
         answered = subst (λ (x : Cut). FoundAnswered A x.found piece s t) e h;
       }
 
-  pub turn_found : (f : Found) → cut.found ≡ Some f → A (text_of f piece t.line) s.rest t.rest → Turn A piece s t
+  pub turn_found : (f : Found) → cut.found ≡ Some f → A (text_of (Some f) piece t.line) s.rest t.rest → Turn A piece s t
   turn_found f k h = turned (subst (λ (x : Option Found). FoundAnswered A x piece s t) (sym k) h)
 
   pub turn_more : cut.found ≡ None → t.rest ≡ s.rest → Turn A piece s t

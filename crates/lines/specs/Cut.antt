@@ -59,8 +59,10 @@ FoundIn (Here a b) n = (a ≤ b) × (b ≤ n)
 FoundIn (Held k) n = k ≤ longest
 FoundIn Long n = Unit {0}
 
--- the text of a line that was found: a part of the piece, or what is held. A line that is too long is read as an empty one
-unfoldable pub text_of : Found → List ℕ → List ℕ → List ℕ
-text_of (Here from end) piece line = take (end - from) (drop from piece)
-text_of (Held n) piece line = take n line
-text_of Long piece line = []
+-- the text of a line that was found: a part of the piece, or what is held. A line that is too long, and one that
+-- goes on, is read as an empty one
+unfoldable pub text_of : Option Found → List ℕ → List ℕ → List ℕ
+text_of (Some (Here from end)) piece line = take (end - from) (drop from piece)
+text_of (Some (Held n)) piece line = take n line
+text_of (Some Long) piece line = []
+text_of None piece line = []

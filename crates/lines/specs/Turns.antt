@@ -16,7 +16,7 @@ stand c l r = record { cursor = c; line = l; rest = r }
 
 -- a line that was found is answered; where none ends in the piece nothing is
 abbrev pub FoundAnswered : {S : Type 0} → (List ℕ → S → S → Type 0) → Option Found → List ℕ → Stand S → Stand S → Type 0
-FoundAnswered A (Some f) piece s t = A (text_of f piece t.line) s.rest t.rest
+FoundAnswered A (Some f) piece s t = A (text_of (Some f) piece t.line) s.rest t.rest
 FoundAnswered A None piece s t = t.rest ≡ s.rest
 
 -- a turn

@@ -113,18 +113,18 @@ pub fn last(held: usize) -> Found
     }
 }
 
-// The text of a line: a part of the piece, or what is held of it. One that is too long is read as an empty one: both are
-// another line. Its bound is a clause: pieces of any length are lent, and the trait `Answers` of `pieces` asks it of each text.
+// The text of a line: a part of the piece, or what is held of it. One that is too long, or that goes on, is read as an empty
+// one: both are another line. Its bound is a clause: pieces of any length are lent, and the trait `Answers` of `pieces` asks it of each text.
 #[tactic(auto, unfolding(crate::specs::Cut::text_of))]
-pub fn text<'a>(found: Found, piece: &'a [u8], line: &'a [u8]) -> &'a [u8]
-    requires found_in { FoundIn found (length piece.now) }
+pub fn text<'a>(found: Option<Found>, piece: &'a [u8], line: &'a [u8]) -> &'a [u8]
+    requires found_in { IfSome found (λ f. FoundIn f (length piece.now)) }
     requires piece_len_bound { (length piece.now ≤ 196606) × (length line.now ≤ 196606) }
     ensures result_value { result.now ≡ text_of found piece.now line.now }
     ensures result_len_bound { length result.now ≤ 196606 }
 {
     match found {
-        Found::Here(from, end) => &piece[from..end],
-        Found::Held(n) => front(line, n),
-        Found::Long => &line[..0],
+        Some(Found::Here(from, end)) => &piece[from..end],
+        Some(Found::Held(n)) => front(line, n),
+        Some(Found::Long) | None => &line[..0],
     }
 }

@@ -3,8 +3,8 @@
 use Prim.Native.Nat.{ℕ, ◌<◌}
 use native.Mathlib.Omega.{arith}
 use mathlib.Core.Path.{◌≡◌, refl, subst⁻¹}
-use mathlib.Core.Bool.{true, false}
-use mathlib.Core.List.{List, []}
+use mathlib.Core.Bool.{Bool, true, false, cond}
+use mathlib.Core.List.{List, [], ◌∷◌}
 use lib.ListN.{length}
 use lib.Dec.{ltb}
 use borrow.Author.Tests.{eqb-false}
@@ -17,7 +17,10 @@ use Rattle.blocks.specs.Stores.{capacity_of, store_of, sound_ring, oldest_of, st
 use Rattle.blocks.proofs.Laws.{oldest_whole}
 use Rattle.packets.specs.declared.Command.{Command}
 use Rattle.packets.specs.declared.Command.TheVariants as command
+use Rattle.packets.specs.declared.Parsed.TheVariants.{Asked}
+use Rattle.packets.specs.Reading.{packet_read}
 use Rattle.packets.specs.Answers.{Written}
+use Rattle.packets.proofs.Laws.{nothing}
 use Rattle.tables.specs.Tables.{Three, starts}
 use Rattle.rules.specs.declared.Pod.{Pod}
 use Rattle.rules.specs.State.{Lent, store_in, with_stores, with_tables, sound_pod, ring_of}
@@ -27,6 +30,11 @@ use Rattle.rules.specs.Calls.{roomed, replied, reply_bytes, spoken_bytes, writte
 use Rattle.rules.proofs.Inside.{PodIn, in_pod, pod_in, ring_in, in_shut}
 use Rattle.rules.proofs.Sound.{command_in}
 use Rattle.packet_port.specs.Port.{Waits, sized_call}
+
+-- a command's packet is not empty
+pub asked_some : (b : List ℕ) (c : Command) → packet_read b ≡ Asked c → 0 < length b
+asked_some [] c e = let n = nothing in let z : ◌≡◌ {A = ℕ} 0 1 = cc in absurd (omega arith)
+asked_some (b ∷ bs) c e = omega arith
 
 -- what a promise says whatever is lent, it says of nothing
 pub bare : Lent
@@ -93,6 +101,12 @@ pub replied_is : (first : ℕ) (room : List ℕ) (o : Out (Said Meant) Pod Lent)
     → out m p l ≡ o → Written (reply_bytes first m p l) room after n → out (gave (bytes n)) p (roomed after l) ≡ given (answered (replied first o) room)
 unfolding answered spoken_bytes
 replied_is first room o {m} {p} {l} e w = rw (← e) (written_is (reply_bytes first m p l) room p l w)
+
+-- ---- the tables, at their starts or as they were
+
+pub tables_moved : (restart : Bool) (t u : Three) (l : Lent) → u ≡ cond restart starts t → with_tables u l ≡ cond restart (with_tables starts (with_tables t l)) (with_tables t l)
+tables_moved true t u l e = rw e
+tables_moved false t u l e = rw e
 
 -- ---- the rows that are left where the room and the stores have their sizes
 

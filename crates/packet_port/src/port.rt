@@ -1,15 +1,15 @@
 // The packet call: a packet is read, obeyed and answered.
-ghost use Rattle.std.specs.Prelude.{◌≡◌, true, ◌≤◌, length};
+ghost use Rattle.std.specs.Prelude.{◌≡◌, true, cond, ◌≤◌, length};
 ghost use Rattle.rows.specs.Rows.{out, gave, given};
-ghost use Rattle.packets.specs.Commands.{command_row};
 ghost use Rattle.packets.specs.Reading.{packet_read};
 ghost use Rattle.packets.specs.Answers.{Written};
-ghost use Rattle.tables.specs.Tables.{three};
+ghost use Rattle.tables.specs.Tables.{three, starts};
 ghost use Rattle.tables.specs.Lent.{held, SameTables};
 ghost use Rattle.rules.specs.State.{Lent, with_stores, with_tables, sound_pod};
 ghost use Rattle.rules.specs.Refusals.{bytes as many, said};
 ghost use Rattle.rules.specs.Obey.{reply_said, shut, obey_of};
 ghost use Rattle.rules.specs.Calls.{roomed, replied, packet_heard, reply_bytes, packet_call};
+ghost use Rattle.commands.specs.Does.{restarts};
 ghost use Rattle.packet_port.specs.Port.{lent_by, LentStores, Waits, Answers, sized_call};
 
 use commands::{acknowledged, judge, obey, report, ring_of, shut};
@@ -53,22 +53,34 @@ fn write_reply(
     }
 }
 
-// A command: an open exchange is closed first.
-#[tactic(auto, using(crate::proofs::Answering::obeyed_sound, crate::proofs::Answering::obeyed_waits, crate::proofs::Answering::replied_is), unfolding(packets::specs::Codes::code_number))]
+// The tables go to their starts where a command restarts them, or stay.
+fn restart(command: Command, reply: Result<Reply, Failure>, tables: &mut Tables)
+    ensures same { SameTables tables.old tables.new }
+    ensures does { held tables.new ≡ cond (restarts command reply) starts (held tables.old) }
+{
+    if let (Command::Initialise(_), Ok(_)) = (command, reply) {
+        tables.restart();
+    }
+}
+
+// A command: an open exchange is closed first. Its answer begins with `first`, the packet's own first byte.
+#[tactic(auto, using(crate::proofs::Answering::obeyed_sound, crate::proofs::Answering::obeyed_waits, crate::proofs::Answering::replied_is))]
 fn asked(
     pod: &mut Pod,
     tables: &mut Tables,
     command: Command,
+    first: u8,
     room: &mut [u8],
     stores: Stores,
 ) -> usize
     requires { (260 ≤ length room.old) × (sound_pod pod.old ≡ true) }
     ensures same { SameTables tables.old tables.new }
-    ensures does { (l : Lent) → Answers result pod.new room.new (with_tables (held tables.new) (lent_by stores.entry l)) room.old (replied (command_row command).code (obey_of command (with_tables (held tables.old) (lent_by stores.entry l)) (shut pod.old))) }
+    ensures does { (l : Lent) → Answers result pod.new room.new (with_tables (held tables.new) (lent_by stores.entry l)) room.old (replied first (obey_of command (with_tables (held tables.old) (lent_by stores.entry l)) (shut pod.old))) }
 {
     shut(pod);
-    let reply = obey(pod, tables, command);
-    write_reply(pod, reply, u8::from(command.code()), room, stores)
+    let reply = obey(pod, command);
+    restart(command, reply, tables);
+    write_reply(pod, reply, first, room, stores)
 }
 
 // A packet on a sound pod: what it is read as decides who answers.
@@ -89,7 +101,7 @@ fn hear(pod: &mut Pod, tables: &mut Tables, bytes: &[u8], room: &mut [u8], store
             acknowledged(pod, first, one);
             0
         }
-        Parsed::Asked(command) => asked(pod, tables, command, room, stores),
+        Parsed::Asked(command) => asked(pod, tables, command, bytes[0], room, stores),
     }
 }
 
@@ -107,7 +119,7 @@ fn lent<'a>(room: &[u8], priority: &'a [u8], ordinary: &'a [u8]) -> Result<Store
 }
 
 // A packet whose room and stores have their sizes.
-// The tables become arrays as in word_port, a line for each size.
+// The tables, of the sizes that `tables::sized` judges, become arrays as in word_port, a line for each.
 #[tactic(auto, unfolding(rows::specs::Rows::ran, rules::specs::Refusals::said, rules::specs::Refusals::refusal_number, tables::specs::Tables::tables_sized, crate::specs::Port::sized_call))]
 fn heard(
     pod: &mut Pod,
@@ -121,6 +133,9 @@ fn heard(
     requires { 260 ≤ length room.old }
     ensures { (l : Lent) → out (said (λ count. many count) result) pod.new (roomed room.new (with_tables (three five.new six.new seven.new) (lent_by stores.entry l))) ≡ sized_call bytes.now (roomed room.old (with_tables (three five.old six.old seven.old) (lent_by stores.entry l))) pod.old }
 {
+    if !tables::sized(five, six, seven) {
+        return Err(Refusal::Size);
+    }
     let five = five.as_mut_array::<64>().ok_or(Refusal::Size)?;
     let six = six.as_mut_array::<128>().ok_or(Refusal::Size)?;
     let seven = seven.as_mut_array::<64>().ok_or(Refusal::Size)?;

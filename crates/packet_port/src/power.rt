@@ -12,7 +12,7 @@ use rules::{Pod, Refusal};
 use tables::Tables;
 
 // The state fresh from power, with the tables at their starts.
-// They are lent as slices of any length, which the row of their sizes judges, and become arrays as in word_port.
+// They are lent as slices of any length, which the row of their sizes judges, by `tables::sized`, and become arrays as in word_port.
 #[tactic(auto, unfolding(rows::specs::Rows::ran, rules::specs::Refusals::said, rules::specs::Refusals::refusal_number, rules::specs::Calls::power_call, tables::specs::Tables::tables_sized))]
 pub fn power_on(
     pod: &mut Pod,
@@ -22,6 +22,9 @@ pub fn power_on(
 ) -> Result<(), Refusal>
     ensures { out (said (λ _. done) result) pod.new (three five.new six.new seven.new) ≡ power_call (three five.old six.old seven.old) pod.old }
 {
+    if !tables::sized(five, six, seven) {
+        return Err(Refusal::Size);
+    }
     let five = five.as_mut_array::<64>().ok_or(Refusal::Size)?;
     let six = six.as_mut_array::<128>().ok_or(Refusal::Size)?;
     let seven = seven.as_mut_array::<64>().ok_or(Refusal::Size)?;

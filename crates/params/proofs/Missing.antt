@@ -1,27 +1,26 @@
--- The kept list: what it is by the marks, what a write makes of it, and how it is compared as one number.
+-- The kept list: what it is by the marks, what a write makes of it, and its number as the library has it (compared: Numbers.antt).
 -- Assumes nothing.
-use Prim.Native.Nat.{ℕ, ◌+◌, ◌*◌, ◌^◌, ◌<◌, ◌≤◌, ◌-◌}
+use Prim.Native.Nat.{ℕ, ◌+◌, ◌*◌, ◌<◌, ◌≤◌, ◌-◌}
 use native.Mathlib.Omega.{arith}
 use native.Mathlib.Numerals.{add-one}
-use mathlib.Core.Path.{◌≡◌, refl, sym, ap, ◌∙◌}
+use mathlib.Core.Path.{◌≡◌, refl, ap, ◌∙◌}
 use mathlib.Core.Bool.{Bool, true, false, not, ◌&&◌, cond}
 use mathlib.Core.List.{List, [], ◌∷◌}
-use borrow.Author.Tests.{eqb-true, eq-eqb}
+use borrow.Author.Tests.{eqb-true}
 use lib.Dec.{eqb}
 use lib.IntN.{ℤ}
 use lib.ListN.{length, drop, get_or, drop_of_length-le}
 use Rattle.std.proofs.Common.{w32, w64, get_or-drop}
 use Rattle.std.specs.Int.{from_le_bytes, to_le_bytes}
-use Rattle.std.proofs.lemmas.Nat.{from_le_bytes-to_le_bytes_8}
 use lib.Seq.{drop-cons}
-use Rattle.rows.proofs.Bool.{split, never, and_left, and_right, every-at}
+use Rattle.rows.proofs.Bool.{and_left, and_right, every-at}
 use Rattle.rows.specs.Same.{same_list}
-use Rattle.rows.proofs.Same.{same_once, same_self}
+use Rattle.rows.proofs.Same.{same_once}
 use Rattle.params.specs.declared.Params.{Params}
 use Rattle.params.specs.Rows.{param_ids, param_row, param_rows, no_param_row}
-use Rattle.params.specs.Rules.{marked, filter, missing_ids, missing_of, is_id, list_kept, struck, stored}
+use Rattle.params.specs.Rules.{marked, filter, missing_ids, missing_of, is_id, struck, stored}
 use Rattle.params.proofs.Laws.{id_within, stored_at}
-use Rattle.params.specs.Packed.{index, asked_marks, list_by, list_for}
+use Rattle.params.specs.Packed.{index, list_by, list_for}
 
 -- ---- a filter, from a place on
 
@@ -107,33 +106,14 @@ by_long a b c d e = eqb-true (length (list_by a b c d e)) 8 (all-at (λ a b c d 
 -- ---- as one number
 
 -- its eight places are the bytes of its number
-by_bytes : (a b c d e : Bool) → to_le_bytes w64 (from_le_bytes w64 (list_by a b c d e)) ≡ list_by a b c d e
+pub by_bytes : (a b c d e : Bool) → to_le_bytes w64 (from_le_bytes w64 (list_by a b c d e)) ≡ list_by a b c d e
 unfolding same_list list_by
 by_bytes a b c d e =
     same_once _ _ (all-at (λ a b c d e. same_list (to_le_bytes w64 (from_le_bytes w64 (list_by a b c d e))) (list_by a b c d e)) refl a b c d e)
 
--- a number is that of such a list exactly where its own eight bytes are the list
-as_number : (n : ℕ) (m : List ℕ) → n < 2 ^ 64 → to_le_bytes w64 (from_le_bytes w64 m) ≡ m → eqb n (from_le_bytes w64 m) ≡ same_list (to_le_bytes w64 n) m
-as_number n m h k =
-    split (eqb n (from_le_bytes w64 m))
-    (λ s. s ∙ sym (ap (λ l. same_list l m) (ap (to_le_bytes w64) (eqb-true n (from_le_bytes w64 m) s) ∙ k) ∙ same_self m))
-    (λ s.
-    split (same_list (to_le_bytes w64 n) m)
-    (λ t. never (eq-eqb n (from_le_bytes w64 m) (sym (from_le_bytes-to_le_bytes_8 n h) ∙ ap (from_le_bytes w64) (same_once (to_le_bytes w64 n) m t))) s)
-    (λ t. s ∙ sym t))
-
 -- a number of eight bytes by its halves
-halves : (l : List ℕ) → from_le_bytes w32 l + 0x1_0000_0000 * from_le_bytes w32 (drop 4 l) ≡ from_le_bytes w64 l
+pub halves : (l : List ℕ) → from_le_bytes w32 l + 0x1_0000_0000 * from_le_bytes w32 (drop 4 l) ≡ from_le_bytes w64 l
 halves l = omega (arith, get_or-drop {A = ℕ})
-
--- so the test by numbers is the rule's
-pub judged : (p : Params) (n : ℕ) → n < 2 ^ 64 → to_le_bytes w64 n ≡ p.missing → length p.written ≡ 12
-    → let right = list_for (asked_marks p.written) in
-    eqb n (from_le_bytes w32 right + 0x1_0000_0000 * from_le_bytes w32 (drop 4 right)) ≡ list_kept p
-unfolding list_kept
-judged p n h e twelve =
-    rw (twelve, halves (list_for (asked_marks p.written)), for_marks (marked p 1) (marked p 2) (marked p 3) (marked p 6) (marked p 7), by_marks p, ← e)
-    (as_number n _ h (by_bytes _ _ _ _ _))
 
 -- it has eight places
 pub missing_long : (p : Params) → length (missing_of p) ≡ 8

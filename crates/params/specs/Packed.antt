@@ -1,12 +1,27 @@
 -- The code's way to judge the kept list: as one number, the first place lowest, against that of the right list. No rule is said by it:
 -- the rule is `list_kept` (Rules.antt), and a reader of the rules may skip this file.
 -- Assumes nothing.
-use Rattle.std.specs.Prelude.{ℕ, ◌+◌, ◌*◌, ◌/◌, ◌%◌, Bool, false, not, cond, List, [], ◌∷◌, eqb, get_or, replicate}
+use Rattle.std.specs.Prelude.{ℕ, zero, suc, ◌+◌, ◌*◌, ◌/◌, ◌%◌, Bool, true, false, not, ◌&&◌, cond, List, [], ◌∷◌, eqb, ltb, get_or, replicate}
 use Rattle.std.proofs.lemmas.List.Edits.{sets}
 
 -- 1 for a mark
 abbrev pub bit_of : Bool → ℕ
 bit_of b = cond b 1 0
+
+-- the number whose bytes are the list's, the first one lowest
+unfoldable pub low_first : List ℕ → ℕ
+low_first [] = 0
+low_first (x ∷ l) = x + 256 * low_first l
+
+-- n places of a list from the i-th on, one by one
+abbrev pub places : List ℕ → ℕ → ℕ → List ℕ
+places l i zero = []
+places l i (suc n) = get_or l i 0 ∷ places l (suc i) n
+
+-- each number is a byte's
+unfoldable pub bytes : List ℕ → Bool
+bytes [] = true
+bytes (x ∷ l) = ltb x 256 && bytes l
 
 -- an id in front, unless it is written
 abbrev pub unless : Bool → ℕ → List ℕ → List ℕ

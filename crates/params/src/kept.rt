@@ -1,8 +1,8 @@
 // The kept list of missing ids: an id struck out, and whether the list is the one that the marks decide.
-ghost use Rattle.std.specs.Prelude.{◌≡◌, ◌+◌, ◌*◌, ◌<◌, drop};
+ghost use Rattle.std.specs.Prelude.{◌≡◌, true, ◌+◌, ◌*◌, ◌<◌, drop};
 ghost use Rattle.std.specs.Int.{from_le_bytes, to_le_bytes, w32, w64};
 ghost use Rattle.params.specs.Rules.{struck, list_kept};
-ghost use Rattle.params.specs.Packed.{asked_marks, list_for};
+ghost use Rattle.params.specs.Packed.{low_first, bytes, places, asked_marks, list_for};
 
 use crate::Params;
 
@@ -24,7 +24,8 @@ pub fn struck(list: [u8; 8], id: u8) -> [u8; 8]
 
 // The number whose bytes are the eight places, the first one lowest: the compiler makes one load of it.
 fn packed(l: [u8; 8]) -> u64
-    ensures { to_le_bytes w64 result ≡ l }
+    ensures low { (result ≡ low_first l) × (bytes l ≡ true) }
+    ensures eight { to_le_bytes w64 result ≡ l }
 {
     u64::from_le_bytes(l)
 }
@@ -42,10 +43,11 @@ fn marks(w: [bool; 12]) -> u8
 
 // The first four places of the right list as such a number, by those marks. Four and not eight, since the compiler makes one look
 // into a table of it then also where a register has 32 bits.
-#[tactic(auto, unfolding(crate::specs::Packed::list_for, crate::specs::Packed::list_by))]
+#[tactic(auto, unfolding(crate::specs::Packed::low_first, crate::specs::Packed::list_for, crate::specs::Packed::list_by))]
 fn list_for(k: u8) -> u32
     requires { k < 32 }
-    ensures { result ≡ from_le_bytes w32 (list_for k) }
+    ensures low { result ≡ low_first (places (list_for k) 0 4) }
+    ensures four { result ≡ from_le_bytes w32 (list_for k) }
 {
     match k {
         0 => 0x0603_0201,
@@ -84,10 +86,11 @@ fn list_for(k: u8) -> u32
 }
 
 // And the last four: only where none is written is there a fifth id.
-#[tactic(auto, unfolding(crate::specs::Packed::list_for, crate::specs::Packed::list_by))]
+#[tactic(auto, unfolding(crate::specs::Packed::low_first, crate::specs::Packed::list_for, crate::specs::Packed::list_by))]
 fn rest_for(k: u8) -> u32
     requires { k < 32 }
-    ensures { result ≡ from_le_bytes w32 (drop 4 (list_for k)) }
+    ensures low { result ≡ low_first (places (list_for k) 4 4) }
+    ensures four { result ≡ from_le_bytes w32 (drop 4 (list_for k)) }
 {
     match k {
         0 => 7,

@@ -1,6 +1,6 @@
 -- What stands between two pieces of input.
 -- Assumes nothing.
-use Rattle.std.specs.Prelude.{ℕ, ◌-◌, ◌^◌, ◌≤◌, ◌<◌}
+use Rattle.std.specs.Prelude.{◌≡◌, Bool, true, false, ℕ, ◌-◌, ◌^◌, ◌≤◌, ◌<◌}
 use Rattle.lines.specs.declared.Cursor.{Cursor}
 use Rattle.pieces.specs.declared.Desk.{Desk}
 
@@ -11,16 +11,16 @@ desk from held have left = record { cursor = record { from = from; held = held }
 abbrev pub started : Desk
 started = desk 0 0 0 (2 ^ 64 - 1)
 
--- what a turn leaves, whatever becomes of the input and the output: a line that is held stays so while the output goes on
-pub data Went (d : Desk) : Desk → Type 0 where
+-- what a turn leaves, whatever becomes of the input: a line that is held stays so while the output, written, goes on
+pub data Went (written : Bool) (d : Desk) : Desk → Type 0 where
   -- the output failed
-  failed : Went d (desk 0 0 0 0)
+  failed : written ≡ false → Went written d (desk 0 0 0 0)
   -- the piece has more lines
-  stays : d.cursor.from < d.have → Went d d
+  stays : written ≡ true → d.cursor.from < d.have → Went written d d
   -- the input ended
-  ends : d.have ≤ d.cursor.from → Went d (desk 0 d.cursor.held 0 0)
+  ends : written ≡ true → d.have ≤ d.cursor.from → Went written d (desk 0 d.cursor.held 0 0)
   -- the next piece is read
-  reads : d.have ≤ d.cursor.from → (n : ℕ) → 1 ≤ n → n ≤ 65536 → Went d (desk 0 d.cursor.held n d.left)
+  reads : written ≡ true → d.have ≤ d.cursor.from → (n : ℕ) → 1 ≤ n → n ≤ 65536 → Went written d (desk 0 d.cursor.held n d.left)
 
 -- the cursor within the piece, no line held that is too long
 pub record InPiece (c : Cursor) (have : ℕ) : Type 0 where

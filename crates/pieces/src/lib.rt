@@ -6,7 +6,7 @@ mod turns;
 ghost use Rattle.std.specs.Prelude.{◌≡◌};
 ghost use Rattle.pieces.specs.Desks.{started, Went};
 
-use items::Output;
+use items::{Output, front};
 use lines::Cursor;
 use std::io::{Read, Stdin};
 pub use turns::{Answers, gather, run};
@@ -33,13 +33,20 @@ pub fn start() -> Desk
     }
 }
 
-// Writes what is gathered, and whether that went well; nothing is gathered then. A bool as `io::write_all` gives it, here and in `Answers`:
-// there is no error to hand on, and `next_piece` alone asks. By `front`, since nothing here bounds the output's place.
-pub fn flush(out: &mut Output<65536>) -> bool
+// Writes what is gathered, and whether that went well. A bool as `io::write_all` gives it, here, below and in `Answers`: there is no error
+// to hand on, and `next_piece` alone asks. By `front`, since nothing here bounds the output's place.
+pub fn flush(out: &[u8], at: usize) -> bool {
+    io::write_all(1, front(out, at))
+}
+
+// The same of an output, of which nothing is gathered then.
+pub fn flush_all(out: &mut Output<'_>) -> bool
     ensures at { out.new.at ≡ 0 }
-    ensures characters { out.new.out ≡ out.old.out }
+    ensures characters { out.new.out.now ≡ out.old.out.now }
+    ensures lent { out.new.out.ghost_name ≡ out.old.out.ghost_name }
 {
-    let written = io::write_all(1, items::front(&out.out, out.at));
+    let at = out.at;
+    let written = flush(out.characters(), at);
     out.at = 0;
     written
 }
@@ -47,7 +54,7 @@ pub fn flush(out: &mut Output<65536>) -> bool
 // Where the piece is answered to its end the next one is read. At the end of input a line without its newline is still held; where
 // what was gathered could not be written all ends.
 pub fn next_piece(desk: Desk, written: bool, piece: &mut [u8; 65536], input: &mut Stdin) -> Desk
-    ensures { Went desk result }
+    ensures { Went written desk result }
 {
     let Cursor { from, held } = desk.cursor;
     if !written {

@@ -16,6 +16,8 @@ pub trait Answers {
     ghost Fine: { Self → Type 0 };
     // whether the output has room for any answer
     ghost room: { Self → Bool };
+    // how many characters are gathered
+    ghost gathered: { Self → ℕ };
 
     fn has_room(&self) -> bool
         ensures { result ≡ room self.now };
@@ -31,7 +33,8 @@ pub trait Answers {
     fn write(&mut self) -> bool
         requires { Fine self.old }
         ensures fine { Fine self.new }
-        ensures has_room { room self.new ≡ true };
+        ensures has_room { room self.new ≡ true }
+        ensures written { gathered self.new ≡ 0 };
 }
 
 // The lines of a piece, one after another, until the piece ends or the output is nearly full: where the next one starts.
@@ -54,13 +57,13 @@ pub fn gather<A: Answers>(
         let cut = next_line(piece, line, cursor);
         cursor = cut.cursor;
         if let Some(found) = cut.found {
-            state.answer(text(found, piece, line));
+            state.answer(text(Some(found), piece, line));
         }
     }
     cursor
 }
 
-// Answers lines until the input ends or the output fails.
+// Answers lines until the input ends or the output fails. Between two pieces, and before the first, nothing is gathered.
 pub fn run<A: Answers>(
     piece: &mut [u8; 65536],
     line: &mut [u8; 196606],
@@ -69,6 +72,7 @@ pub fn run<A: Answers>(
 )
     requires fine { A.Fine state.old }
     requires has_room { A.room state.old ≡ true }
+    requires written { A.gathered state.old ≡ 0 }
 {
     let mut desk = start();
     while desk.left > 0 {
@@ -82,7 +86,7 @@ pub fn run<A: Answers>(
     }
     let held = desk.cursor.held;
     if held > 0 {
-        state.answer(text(last(held), piece, line));
+        state.answer(text(Some(last(held)), piece, line));
         state.write();
     }
 }

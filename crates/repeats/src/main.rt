@@ -15,25 +15,27 @@ use items::{Output, bytes_in, front};
 use rules::{Answer, Refusal};
 
 fn print(letter: u8, answer: Result<Answer, Refusal>) {
-    let mut out = Output::<8> { out: [0; 8], at: 0 };
+    let mut line = [0u8; 8];
+    let mut out = Output {
+        out: &mut line,
+        at: 0,
+    };
     answers::put_answer(&mut out, letter, answer);
-    io::write_all(1, front(&out.out, out.at));
+    let at = out.at;
+    io::write_all(1, front(out.characters(), at));
 }
 
 // The last packet's answer lies at the start of the room; with no call there is none, and the letter stands alone.
 // It has another room than `print` and another writer of `answers`; what is alike is the line at the end.
 fn print_packet(answer: Result<Answer, Refusal>, room: &[u8; 260]) {
-    let count = match answer {
-        Ok(Answer::Length(n)) => Ok(n),
-        Err(why) => Err(why),
-        other => return print(b'P', other),
-    };
-    let mut out = Output::<784> {
-        out: [0; 784],
+    let mut line = [0u8; 784];
+    let mut out = Output {
+        out: &mut line,
         at: 0,
     };
-    answers::put_packet(&mut out, count, room);
-    io::write_all(1, front(&out.out, out.at));
+    answers::put_packet(&mut out, answer, room);
+    let at = out.at;
+    io::write_all(1, front(out.characters(), at));
 }
 
 // Any other line.

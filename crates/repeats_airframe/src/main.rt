@@ -14,12 +14,14 @@ use packets::Parsed;
 // A letter and at most 256 bytes.
 // As in `repeats` it ends with a line that writes what is gathered; the line before it is another.
 fn print(letter: u8, bytes: &[u8]) {
-    let mut line = Output {
-        out: [0u8; 772],
+    let mut line = [0u8; 772];
+    let mut out = Output {
+        out: &mut line,
         at: 0,
     };
-    line.bytes_line(letter, front(bytes, 256));
-    io::write_all(1, front(&line.out, line.at));
+    out.bytes_line(letter, front(bytes, 256));
+    let at = out.at;
+    io::write_all(1, front(out.characters(), at));
 }
 
 // Any other line.

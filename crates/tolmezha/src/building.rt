@@ -1,12 +1,28 @@
 // A command or an acknowledgement from numbers of 32 bits, and what became of it as one number.
-ghost use Rattle.std.specs.Prelude.{◌≡◌, ◌≤◌, true, IfOk};
+ghost use Rattle.std.specs.Prelude.{◌≡◌, ◌≤◌, true, pos, neg_ℤ, IfOk};
 ghost use Rattle.rows.specs.Rows.{out};
-ghost use Rattle.airframe.specs.Building.{command_wide, built_said};
+ghost use Rattle.airframe.specs.Building.{refusal_number, command_wide, built_said};
 ghost use Rattle.airframe.specs.Given.{given_in};
 ghost use Rattle.tolmezha.specs.Numbers.{answered, command_answered, form_wide, acknowledgement_answered};
 
+use crate::{
+    FLAGS, MEMORY_LIMIT, MEMORY_REMAINING, MILLISECONDS, MODE, OUTSIDE, POLL, PRIORITY_LIMIT,
+    PRIORITY_REMAINING, SECONDS, SMALL, WRONG,
+};
 use airframe::{Form, Refusal, fields_given};
 use packets::{Command, Fields};
+
+// Minus the refusal's number: by the numbers that the header has, so that these are proved.
+#[tactic(auto, unfolding(airframe::specs::Building::refusal_number))]
+pub fn refusal(why: Refusal) -> i32
+    ensures { result ≡ neg_ℤ (pos (refusal_number why)) }
+{
+    match why {
+        Refusal::Field => OUTSIDE,
+        Refusal::Wrong => WRONG,
+        Refusal::Room => SMALL,
+    }
+}
 
 // A length, or minus the refusal's number.
 #[tactic(auto, unfolding(airframe::specs::Building::built_said))]
@@ -16,7 +32,7 @@ fn number(built: Result<usize, Refusal>) -> i32
 {
     match built {
         Ok(n) => n as i32,
-        Err(why) => -i32::from(u8::from(why)),
+        Err(why) => refusal(why),
     }
 }
 
@@ -38,5 +54,16 @@ pub fn acknowledgement(first: u8, form: Form, room: &mut [u8]) -> i32
 pub fn nine(n: [u32; 9]) -> Option<Fields>
     ensures { result ≡ given_in n }
 {
-    fields_given(n.map(u64::from))
+    let named = [
+        n[MODE],
+        n[FLAGS],
+        n[SECONDS],
+        n[MILLISECONDS],
+        n[PRIORITY_LIMIT],
+        n[PRIORITY_REMAINING],
+        n[MEMORY_LIMIT],
+        n[MEMORY_REMAINING],
+        n[POLL],
+    ];
+    fields_given(named.map(u64::from))
 }

@@ -48,7 +48,7 @@ pub fn put(read: Result<Meaning, Refusal>, answer: &[u8], values: &mut [i64; 13]
     ensures { out result tt values.new ≡ read_answered (meaning_said read answer.now) values.old }
 {
     match read {
-        Err(why) => -i32::from(u8::from(why)),
+        Err(why) => crate::building::refusal(why),
         Ok(Meaning::Done) => DONE,
         Ok(Meaning::Error(error)) => {
             values[0] = i64::from(error);

@@ -1,14 +1,7 @@
--- By the answer.
-use Rattle.std.proofs.Common.{rules, arith}
-use Rattle.rules.specs.Refusals.{said}
+-- A line of no bytes.
+use Rattle.std.proofs.Common.{arith}
 use Rattle.items.proofs.Behind.{longer}
-use Rattle.answers.specs.Answers.{said_line}
 use Rattle.answers.proofs.put_answer.Goals as goal
 
-pub returns-in-Ok : goal.returns-in-Ok
-unfolding said
-returns-in-Ok g c = rw c.in-Ok.is c.put_given.ensures
-
-pub returns-in-Err : goal.returns-in-Err
-unfolding said_line said
-returns-in-Err g c = rw c.in-Err.is (longer 7 (omega arith) c.put_refused.ensures)
+pub returns : goal.returns
+returns c = longer 7 (omega arith) c.put_line.ensures

@@ -7,8 +7,8 @@ use Rattle.answers.proofs.put_word.Goals as goal
 
 pub returns-in-Ok : goal.returns-in-Ok
 unfolding said_line said
-returns-in-Ok g c = rw c.in-Ok.is (c.word_line.ensures)
+returns-in-Ok c = rw c.in-Ok.is (c.word_line.ensures)
 
 pub returns-in-Err : goal.returns-in-Err
 unfolding said_line said
-returns-in-Err g c = rw c.in-Err.is (longer 7 (omega arith) c.put_refused.ensures)
+returns-in-Err c = rw c.in-Err.is (longer 7 (omega arith) c.put_refused.ensures)

@@ -8,7 +8,7 @@ use Rattle.scans.proofs.find.Goals as goal
 pub returns-in-Some : goal.returns-in-Some
 returns-in-Some c =
     let first = position_from_yields_List (λ x. eqb x c.args.b) _ _ c.position.result c.position.ensures.ran (YieldsList-from_slice _ c.iter.ensures.rest) (λ x b q k. search (rules, tests)) in
-    found _ _ _ _ _ _ (omega arith) first c.in-Some.is
+    omega (arith, found c.args.b c.args.from c.args.to c.in-Some.k c.args.text.now c.position.result (omega arith) first c.in-Some.is)
 
 pub returns-in-None : goal.returns-in-None
 returns-in-None c =

@@ -9,10 +9,10 @@ use Rattle.aircraft_answers.proofs.Lines.{over_again, sent-again}
 use Rattle.aircraft_answers.proofs.answering.again.Goals as goal
 
 pub returns-in-Over : goal.returns-in-Over
-returns-in-Over g c = rw (over_again (way_in c.args.way.now) c.in-Over.is) (renamed _ 800 refl (omega arith) c.append.ensures)
+returns-in-Over c = rw (over_again (way_in c.args.way.now) c.in-Over.is) (renamed _ 800 refl (omega arith) c.append.ensures)
 
 pub returns-in-Awaiting : goal.returns-in-Awaiting
-returns-in-Awaiting g c =
+returns-in-Awaiting c =
     let way = c.args.way.now in
     let front = c.front.ensures.result_value in
     rw (sent-again (way_in way) _ _ c.in-Awaiting.is)

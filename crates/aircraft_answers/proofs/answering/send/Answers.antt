@@ -1,6 +1,5 @@
 -- What is built is printed and put on its way, or the command is refused.
 use native.Mathlib.Omega.{arith}
-use borrow.Author.Rules.{rules}
 use mathlib.Core.Path.{refl, ap}
 use Rattle.items.specs.Printed.{bytes_line, refused_line}
 use Rattle.items.proofs.Behind.{renamed}
@@ -13,12 +12,12 @@ use Rattle.aircraft_answers.proofs.answering.send.Goals as goal
 
 pub refused_line-requires : goal.refused_line-requires
 unfolding refusal_number
-refused_line-requires g c = (search rules, (omega arith, omega (arith, c.from.ensures)))
+refused_line-requires c = (omega arith, omega (arith, c.from.ensures))
 
 -- no command has more than 25 bytes
 pub invariant_of-way : goal.invariant_of-way
 unfolding command_built
-invariant_of-way g c =
+invariant_of-way c =
     let a = c.args in
     let b = c.build in
     let p = put (command_fits a.command) (command_bytes a.command) _ refl b.result _ b.ensures _ (few_bytes a.command) c.in-Ok.is in
@@ -26,7 +25,7 @@ invariant_of-way g c =
 
 pub returns-in-Ok : goal.returns-in-Ok
 unfolding command_built
-returns-in-Ok g c =
+returns-in-Ok c =
     let a = c.args in
     let b = c.build in
     let p = put (command_fits a.command) (command_bytes a.command) _ refl b.result _ b.ensures _ (few_bytes a.command) c.in-Ok.is in
@@ -35,7 +34,7 @@ returns-in-Ok g c =
 
 pub returns-in-Err : goal.returns-in-Err
 unfolding command_built refusal_number
-returns-in-Err g c =
+returns-in-Err c =
     let a = c.args in
     let b = c.build in
     rw (not_put (command_fits a.command) (command_bytes a.command) _ refl b.result _ b.ensures _ c.in-Err.is)

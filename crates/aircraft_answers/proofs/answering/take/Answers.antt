@@ -1,6 +1,5 @@
 -- What is built is printed, or the acknowledgement is refused.
 use native.Mathlib.Omega.{arith}
-use borrow.Author.Rules.{rules}
 use mathlib.Core.Path.{refl, ap, ◌∙◌}
 use Rattle.items.specs.Printed.{bytes_line, refused_line}
 use Rattle.items.proofs.Behind.{renamed}
@@ -12,11 +11,11 @@ use Rattle.aircraft_answers.proofs.answering.take.Goals as goal
 
 pub refused_line-requires : goal.refused_line-requires
 unfolding refusal_number
-refused_line-requires g c = (search rules, (omega arith, omega (arith, c.from.ensures)))
+refused_line-requires c = (omega arith, omega (arith, c.from.ensures))
 
 pub returns-in-Ok : goal.returns-in-Ok
 unfolding acknowledgement_built
-returns-in-Ok g c w =
+returns-in-Ok c w =
     let a = c.args in
     let b = c.acknowledge in
     let front = c.front.ensures in
@@ -26,7 +25,7 @@ returns-in-Ok g c w =
 
 pub returns-in-Err : goal.returns-in-Err
 unfolding acknowledgement_built refusal_number
-returns-in-Err g c w =
+returns-in-Err c w =
     let a = c.args in
     let b = c.acknowledge in
     let f = not_put (first_fits a.first) (acknowledgement_bytes a.first a.form) _ refl b.result _ b.ensures _ c.in-Err.is in

@@ -7,4 +7,4 @@ use Rattle.aircraft_answers.proofs.answering.tell.Goals as goal
 
 pub returns : goal.returns
 unfolding heard_said
-returns g c = record { text = renamed _ 800 refl (omega arith) c.put_outcome.ensures; way = refl }
+returns c = record { text = renamed _ 800 refl (omega arith) c.put_outcome.ensures; way = refl }

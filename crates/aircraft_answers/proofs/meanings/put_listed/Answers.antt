@@ -5,4 +5,4 @@ use Rattle.items.proofs.Behind.{both, renamed}
 use Rattle.aircraft_answers.proofs.meanings.put_listed.Goals as goal
 
 pub returns : goal.returns
-returns g c = renamed _ 773 refl (omega arith) (both c.append.ensures c.items.ensures)
+returns c = renamed _ 773 refl (omega arith) (both c.append.ensures c.items.ensures)

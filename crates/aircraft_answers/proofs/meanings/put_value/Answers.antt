@@ -9,7 +9,7 @@ use Rattle.aircraft_answers.proofs.Texts.{value_text}
 use Rattle.aircraft_answers.proofs.meanings.put_value.Goals as goal
 
 pub returns : goal.returns
-returns g c =
+returns c =
     let a = c.args in
     let back : to_z w32 (of_z w32 a.v) ≡ a.v = search rules in
     renamed _ 49 (value_text a.id a.v) (omega arith) (both c.append.ensures (both c.put_run.ensures (rw back at c.put_one.ensures)))

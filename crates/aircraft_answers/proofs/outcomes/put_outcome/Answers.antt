@@ -6,4 +6,4 @@ use Rattle.aircraft_answers.proofs.outcomes.put_outcome.Goals as goal
 
 pub returns : goal.returns
 unfolding outcome_text heard_said
-returns g c = both c.append.ensures (both c.put_reply.ensures (both c.put_step.ensures c.append-2.ensures))
+returns c = both c.append.ensures (both c.put_reply.ensures (both c.put_step.ensures c.append-2.ensures))

@@ -7,10 +7,10 @@ use Rattle.decimals.proofs.printing.put_digits.Goals as goal
 
 pub loop-rest-init : goal.loop-rest-init
 unfolding decimal
-loop-rest-init g c = record { place = search rules; small = omega (arith, c.ranges.n); size = refl; digits = append-nil (digits_of 20 c.args.n) }
+loop-rest-init c = record { place = search rules; small = omega (arith, c.ranges.n); size = refl; digits = append-nil (digits_of 20 c.args.n) }
 
 pub loop-rest-preserved : goal.loop-rest-preserved
-loop-rest-preserved g c =
+loop-rest-preserved c =
     let l = c.loop-rest in
     let more : 10 ≤ l.rest = omega arith in
     let f = fewer l.i l.rest l.invariant.small more in
@@ -22,13 +22,13 @@ loop-rest-preserved g c =
     }
 
 pub append-requires : goal.append-requires
-append-requires g c =
+append-requires c =
     let l = c.loop-rest in
     let t = the_text l.i l.rest c.args.n l.text (omega arith) l.invariant.place l.invariant.size l.invariant.digits in
-    (search rules, omega (arith, ap length t))
+    omega (arith, ap length t)
 
 pub returns : goal.returns
-returns g c =
+returns c =
     let l = c.loop-rest in
     let t = the_text l.i l.rest c.args.n l.text (omega arith) l.invariant.place l.invariant.size l.invariant.digits in
     let h = c.append.ensures in

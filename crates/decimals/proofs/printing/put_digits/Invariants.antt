@@ -4,7 +4,7 @@ use Rattle.items.specs.Printed.{digits_of, decimal}
 use Rattle.decimals.proofs.printing.put_digits.Given as goal
 
 abbrev pub invariant-loop-rest : goal.invariant-loop-rest
-invariant-loop-rest g l =
+invariant-loop-rest l =
     record {
       place : l.i ≤ 19;
       small : l.rest < 10 ^ (l.i + 1);
@@ -13,4 +13,4 @@ invariant-loop-rest g l =
     }
 
 abbrev pub decreases-loop-rest : goal.decreases-loop-rest
-decreases-loop-rest g l = l.rest
+decreases-loop-rest l = l.rest

@@ -11,7 +11,7 @@ loop-n-preserved g c =
     let l = c.loop-n in
     one_more _ _ (numbers_on d.value c.args.numbers.now l.n-index c.n-item.result c.loop-n-test.true c.n-item.is)
     (omega (arith, mul-add (d.most + 1) l.n-index 1)) l.invariant
-    (both {m = 1} {n = d.most} c.append.ensures c.put.ensures)
+    (both {m = 1} {n = d.most} c.put_space.ensures c.put.ensures)
 
 pub returns : goal.returns
 returns g c =

@@ -1,5 +1,5 @@
 -- Each word's item goes behind those before it.
-use Rattle.std.proofs.Common.{rules, arith, subst, List, ℕ, get_or, ◌∷◌, []}
+use Rattle.std.proofs.Common.{arith, subst, List, ℕ, get_or, ◌∷◌, []}
 use Rattle.hexes.specs.Digits.{word_digits}
 use Rattle.items.specs.Output.{Written}
 use Rattle.items.proofs.Behind.{one_more, whole}
@@ -7,10 +7,10 @@ use Rattle.lab_shows.proofs.Spell.{words_on, words_end}
 use Rattle.lab_shows.proofs.runs.put_words.Goals as goal
 
 pub append-requires : goal.append-requires
-append-requires g c = (search rules, omega (arith, c.loop-word.invariant.place, c.loop-word.invariant.short))
+append-requires c = omega (arith, c.loop-word.invariant.place, c.loop-word.invariant.short, c.loop-word.invariant.room)
 
 pub loop-word-preserved : goal.loop-word-preserved
-loop-word-preserved g c =
+loop-word-preserved c =
     let l = c.loop-word in
     let ws = c.args.words.now in
     let item : Written (32 ∷ word_digits (get_or ws l.word-index 0)) 5 l.out c.append.new.self =
@@ -18,4 +18,4 @@ loop-word-preserved g c =
     one_more _ _ (words_on ws l.word-index (omega arith)) (omega arith) l.invariant item
 
 pub returns : goal.returns
-returns g c = whole _ (words_end c.args.words.now c.loop-word.word-index (omega arith)) (omega arith) c.loop-word.invariant
+returns c = whole _ (words_end c.args.words.now c.loop-word.word-index (omega arith)) (omega arith) c.loop-word.invariant

@@ -5,4 +5,4 @@ use Rattle.lab_shows.proofs.runs.put_words.Given as goal
 
 -- what is left of the words goes behind what is written
 abbrev pub invariant-loop-word : goal.invariant-loop-word
-invariant-loop-word g l = Left (spelled_words l.words) (spelled_words (drop l.word-index l.words)) (5 * l.word-index) l.initial.out l.out
+invariant-loop-word l = Left (spelled_words l.words) (spelled_words (drop l.word-index l.words)) (5 * l.word-index) l.initial.out l.out

@@ -8,7 +8,7 @@ use Rattle.lab_shows.proofs.showing.put_back.Goals as goal
 
 pub returns : goal.returns
 unfolding back_numbers
-returns g c =
+returns c =
     let p = c.args.pod.now in
     let text : List ℕ → List ℕ = λ l. spelled (naturals l) in
     let n : length c.port_numbers.result ≡ 10 = search rules in

@@ -9,7 +9,7 @@ use Rattle.lab_shows.proofs.showing.put_front.Goals as goal
 
 pub returns : goal.returns
 unfolding front_numbers
-returns g c =
+returns c =
     let p = c.args.pod.now in
     let text : List ℕ → List ℕ = λ l. spelled (naturals l) in
     let n : length c.marks.result ≡ 12 = search rules in

@@ -6,6 +6,6 @@ use Rattle.lab_shows.proofs.showing.put_list.Goals as goal
 
 pub returns : goal.returns
 unfolding shown_list
-returns g c =
+returns c =
     let n : length c.args.pod.now.params.missing ≡ 8 = search rules in
     both {m = 32} {n = 1} (renamed _ 32 refl (omega arith) c.put_run.ensures) c.append.ensures

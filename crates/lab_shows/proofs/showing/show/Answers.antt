@@ -7,7 +7,7 @@ use Rattle.lab_shows.proofs.showing.show.Goals as goal
 
 pub returns : goal.returns
 unfolding shown_text
-returns g c =
+returns c =
     let p = c.args.pod.now in
     let k = c.all_checks in
     let n : length k.result ≡ 7 = search rules in

@@ -6,4 +6,4 @@ use Rattle.line_answers.proofs.answering.called.Goals as goal
 pub returns : goal.returns
 returns c =
     let heard = c.asked-line.ensures in
-    record { answered = rw (← heard) c.answer.ensures; sizes = rw (← heard) (c.next_sizes-bench.ensures _ _); program = refl; line = one_line _ _ }
+    record { answered = rw (← heard) c.answer_in.ensures; sizes = rw (← heard) (c.next_sizes-bench.ensures _ _); program = refl; line = one_line _ _ }

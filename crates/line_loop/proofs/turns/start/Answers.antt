@@ -1,20 +1,7 @@
--- Refused or not, power on leaves a fresh pod fresh.
-use Rattle.std.proofs.Common.{◌≡◌, refl, ap, ◌∙◌}
-use Rattle.rows.proofs.Laws.{ran-case}
-use Rattle.tables.specs.Tables.{Three}
-use Rattle.rules.specs.State.{fresh_pod}
-use Rattle.rules.specs.Calls.{power_call, power_rows}
+-- A fresh pod stays fresh.
+use Rattle.std.proofs.Common.{rules, refl}
 use Rattle.line_loop.proofs.turns.start.Goals as goal
-
-power-fresh : (t : Three) → (power_call t fresh_pod).pod ≡ fresh_pod
-unfolding power_call
-power-fresh t = ran-case (λ x. x.pod ≡ fresh_pod) (power_rows t) (λ n f. refl) (λ k. refl)
 
 pub returns : goal.returns
 returns c =
-    record {
-      program = refl;
-      pod = ap (λ x. x.pod) (rw c.fresh_pod-pod.ensures at c.power_on.ensures) ∙ power-fresh _;
-      sizes = c.right_sizes.ensures;
-      written = refl;
-    }
+    record { program = refl; pod = c.power.ensures c.fresh_pod.ensures; sizes = c.right_sizes.ensures; written = refl; room = search rules }

@@ -1,5 +1,5 @@
 use Rattle.std.proofs.Common.{rules}
-use Rattle.params.proofs.Missing.{judged}
+use Rattle.params.proofs.Numbers.{judged}
 use Rattle.params.proofs.kept.listed.Goals as goal
 
 pub returns : goal.returns

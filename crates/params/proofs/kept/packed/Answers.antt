@@ -1,9 +1,10 @@
-use Rattle.std.proofs.Common.{rules, ◌≡◌, ◌<◌, ◌≤◌, ℕ, List, length, get_or, arith}
+use Rattle.std.proofs.Common.{rules, ◌≡◌, ◌<◌, ◌≤◌, ℕ, List, length, get_or, arith, sym}
 use Rattle.std.proofs.lemmas.List.{get_or_past}
 use borrow.Author.Tests.{ltb-true, ltb-false}
 use lib.Dec.{ltb}
 use Rattle.rows.proofs.Bool.{split}
 use Rattle.std.proofs.lemmas.Nat.{le_bytes_8}
+use Rattle.params.proofs.Numbers.{low_back, low_bytes}
 use Rattle.params.proofs.kept.packed.Goals as goal
 
 -- what holds of each place, and of the 0 behind the last one
@@ -17,4 +18,7 @@ each_byte l n e f i =
 pub returns : goal.returns
 returns c =
     let long : length c.args.l ≡ 8 = search rules in
-    le_bytes_8 c.args.l c.from_le_bytes.result long (each_byte c.args.l 8 long (λ i h. search rules)) c.from_le_bytes.ensures
+    let eight = le_bytes_8 c.args.l c.from_le_bytes.result long (each_byte c.args.l 8 long (λ i h. search rules)) c.from_le_bytes.ensures in
+    let n = c.from_le_bytes.result in
+    let low = low_back n (search rules) in
+    record { low = (rw eight at (sym low), rw eight at (low_bytes n)); eight = eight }

@@ -4,7 +4,7 @@ use Rattle.pieces.proofs.turns.run.Given as goal
 
 -- nothing but the bounds has to hold from piece to piece, and the turns left become fewer
 abbrev pub invariant-loop-desk : goal.invariant-loop-desk
-invariant-loop-desk g l = record { desk : Bounded l.desk; fine : g.A.Answers.Fine l.state; room : g.A.Answers.room l.state ≡ true }
+invariant-loop-desk g l = record { desk : Bounded l.desk; fine : g.A.Answers.Fine l.state; room : g.A.Answers.room l.state ≡ true; written : g.A.Answers.gathered l.state ≡ 0 }
 
 abbrev pub decreases-loop-desk : goal.decreases-loop-desk
 decreases-loop-desk g l = l.desk.left

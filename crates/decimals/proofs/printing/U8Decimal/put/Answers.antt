@@ -1,16 +1,16 @@
 -- A byte has three digits at the most. Assumes nothing.
-use Rattle.std.proofs.Common.{rules, arith, ◌≡◌, ap}
+use Rattle.std.proofs.Common.{arith, ◌≡◌, ap}
 use Rattle.items.specs.Printed.{decimal}
 use Rattle.items.proofs.Behind.{renamed}
 use Rattle.decimals.proofs.Tens.{byte-most}
 use Rattle.decimals.proofs.printing.U8Decimal.put.Goals as goal
 
 pub put_digits-requires : goal.put_digits-requires
-put_digits-requires g c =
+put_digits-requires c =
     let same : c.from.result ≡ c.args.self = c.from.ensures in
-    (search rules, rw same (omega (arith, byte-most c.args.self (omega arith))))
+    rw same (omega (arith, byte-most c.args.self (omega arith)))
 
 pub returns : goal.returns
-returns g c =
+returns c =
     let same : c.from.result ≡ c.args.self = c.from.ensures in
     renamed (decimal c.args.self) 3 (ap decimal same) (rw same (byte-most c.args.self (omega arith))) c.put_digits.ensures

@@ -4,4 +4,4 @@ use Rattle.items.proofs.output.Output.bare_line.Goals as goal
 
 pub returns : goal.returns
 unfolding bare_line
-returns g c = c.append.ensures
+returns c = c.append.ensures

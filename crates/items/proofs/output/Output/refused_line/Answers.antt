@@ -5,7 +5,7 @@ use Rattle.items.proofs.Behind.{renamed}
 use Rattle.items.proofs.output.Output.refused_line.Goals as goal
 
 pub returns-then-number-lt10 : goal.returns-then-number-lt10
-returns-then-number-lt10 g c = rw (one_digit c.args.letter c.args.number (omega arith)) (renamed _ 6 refl (omega arith) c.append.ensures)
+returns-then-number-lt10 c = rw (one_digit c.args.letter c.args.number (omega arith)) (renamed _ 6 refl (omega arith) c.append.ensures)
 
 pub returns : goal.returns
-returns g c = rw (two_digits c.args.letter c.args.number (omega arith) (omega arith)) c.append-2.ensures
+returns c = rw (two_digits c.args.letter c.args.number (omega arith) (omega arith)) c.append-2.ensures
