@@ -7,7 +7,7 @@ ghost use Rattle.airframe.specs.Reading.{status, value, shown_report, meaning_sa
 ghost use Rattle.aircraft_answers.specs.Words.{meant_text};
 
 use airframe::{Meaning, Refusal, Shown, block, ids};
-use decimals::{put_number, put_one, put_run};
+use decimals::{put_number, put_numerals, put_one};
 use items::Output;
 
 // The thirteen numbers of a status.
@@ -24,8 +24,8 @@ fn put_status(out: &mut Output<'_>, shown: Shown, ids: &[u8])
         u64::from(shown.ordinary),
         u64::from(shown.request),
     ];
-    put_run(out, &numbers);
-    put_run(out, ids);
+    put_numerals(out, &numbers);
+    put_numerals(out, ids);
 }
 
 fn put_value(out: &mut Output<'_>, id: u8, v: i32)
@@ -33,7 +33,7 @@ fn put_value(out: &mut Output<'_>, id: u8, v: i32)
     ensures { Written (meant_text (gave (value id v))) 49 out.old out.new }
 {
     out.append(b" value");
-    put_run(out, &[id]);
+    put_numerals(out, &[id]);
     put_one(out, v);
 }
 

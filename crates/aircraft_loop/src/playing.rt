@@ -2,11 +2,11 @@
 use crate::Between;
 use crate::turns::fresh;
 use items::Output;
-use pieces::run;
+use pieces::run_emptied;
 
 // The pieces of input, a line that is held, the output's places, and what stands between two lines: nothing yet.
-// Three buffers and `run`, which every program has from `pieces`: one `play` for all would still be handed the state, and would have to
-// require what `run` requires of it.
+// Three buffers and `run_emptied`, which every program has from `pieces`: one `play` for all would still be handed the state, and would
+// have to require what `run_emptied` requires of it.
 pub fn play(rt: &HostRuntime) {
     let mut piece = [0u8; 65536];
     let mut line = [0u8; 196606];
@@ -19,5 +19,5 @@ pub fn play(rt: &HostRuntime) {
             at: 0,
         },
     };
-    run(&mut piece, &mut line, &mut between, &mut rt.stdin());
+    run_emptied(&mut piece, &mut line, &mut between, &mut rt.stdin());
 }

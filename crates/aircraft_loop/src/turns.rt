@@ -7,7 +7,7 @@ use crate::Between;
 use aircraft_answers::{Underway, answer};
 use aircraft_lines::read_line;
 use airframe::Sending;
-use pieces::{Answers, flush_all};
+use pieces::{Gathers, flush_all};
 
 // The longest line of output has 800 characters: with fewer left, what is gathered is written first.
 const ENOUGH: usize = 64736;
@@ -25,7 +25,7 @@ pub fn fresh() -> Underway
 
 // Beside the impl of `line_answers` no plainer as one: `ENOUGH` is of the longest line that a program writes, the bodies are a line
 // each, and what `write` keeps is named by the fields of this state.
-impl<'a> Answers for Between<'a> {
+impl<'a> Gathers for Between<'a> {
     ghost answers = { TextAnswered };
 
     ghost Fine = { λ s. length s.out.out.now ≡ 65536 };

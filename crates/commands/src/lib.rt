@@ -12,4 +12,4 @@ pub use acknowledge::acknowledged;
 pub use bounds::{judge, sound};
 pub use changes::{ring_of, set_ring, shut};
 pub use fresh::fresh_pod;
-pub use obeying::{obey, report};
+pub use obeying::{obey, obey_pod, report};

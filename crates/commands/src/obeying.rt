@@ -5,6 +5,7 @@
 ghost use Rattle.std.specs.Prelude.{◌≡◌, true, cond};
 ghost use Rattle.rows.specs.Rows.{out};
 ghost use Rattle.tables.specs.Tables.{starts};
+ghost use Rattle.tables.specs.Lent.{held, SameTables};
 ghost use Rattle.rules.specs.State.{Lent, with_tables, sound_pod};
 ghost use Rattle.rules.specs.Obey.{reply_said, receives, obey_of, report_of};
 ghost use Rattle.commands.specs.Does.{Does, Awake, restarts};
@@ -14,6 +15,7 @@ use crate::fresh::fresh_pod;
 use blocks::Store;
 use packets::{Command, Fields, Report};
 use rules::{Exchange, Failure, Pod, Reply};
+use tables::Tables;
 
 // Check 7.
 fn awake(pod: &Pod) -> Result<(), Failure>
@@ -101,7 +103,7 @@ fn shutdown(pod: &mut Pod) -> Result<Reply, Failure>
 
 // A command leaves all that is lent, but for the tables where it restarts them: these are for the caller to put to their starts.
 #[tactic(auto)]
-pub fn obey(pod: &mut Pod, command: Command) -> Result<Reply, Failure>
+pub fn obey_pod(pod: &mut Pod, command: Command) -> Result<Reply, Failure>
     ensures { (l : Lent) → out (reply_said result) pod.new (cond (restarts command result) (with_tables starts l) l) ≡ obey_of command l pod.old }
 {
     match command {
@@ -114,6 +116,19 @@ pub fn obey(pod: &mut Pod, command: Command) -> Result<Reply, Failure>
         Command::Data => receive(pod, Store::Ordinary),
         Command::Shutdown => shutdown(pod),
     }
+}
+
+// The same where the tables are lent too: they go to their starts.
+#[tactic(auto)]
+pub fn obey(pod: &mut Pod, tables: &mut Tables, command: Command) -> Result<Reply, Failure>
+    ensures same { SameTables tables.old tables.new }
+    ensures does { (l : Lent) → out (reply_said result) pod.new (with_tables (held tables.new) l) ≡ obey_of command (with_tables (held tables.old) l) pod.old }
+{
+    let reply = obey_pod(pod, command);
+    if let (Command::Initialise(_), Ok(_)) = (command, reply) {
+        tables.restart();
+    }
+    reply
 }
 
 // What a status answer shows.

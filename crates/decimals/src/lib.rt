@@ -1,10 +1,12 @@
 // Decimal numbers, read and printed.
 #![tactic(auto)]
 
+mod adding;
 mod printing;
 mod reading;
 
-pub use printing::{Decimal, put_number, put_one, put_run, put_signed, put_space};
+pub use adding::{Decimal, put_run};
+pub use printing::{Numeral, put_number, put_numerals, put_one, put_signed, put_space};
 pub use reading::{below, numbers_in};
 
 // A number: whether a `-` stands before its digits, and its size. The sign stands beside it, since `-0` is no `0` (`number_in`).

@@ -8,7 +8,7 @@ ghost use Rattle.decimals.specs.Printing.{signed_text, spelled};
 use items::Output;
 
 // What is printed in decimal: which number it is, and in how many characters at the most. No `Display`, which promises no text.
-pub trait Decimal: Copy {
+pub trait Numeral: Copy {
     ghost value: { Self → ℤ };
 
     ghost most: { ℕ };
@@ -18,7 +18,7 @@ pub trait Decimal: Copy {
         ensures { Written (signed_text (value self)) most out.old out.new };
 }
 
-impl Decimal for u8 {
+impl Numeral for u8 {
     ghost value = { pos };
 
     ghost most = { 3 };
@@ -28,7 +28,7 @@ impl Decimal for u8 {
     }
 }
 
-impl Decimal for u64 {
+impl Numeral for u64 {
     ghost value = { pos };
 
     ghost most = { 20 };
@@ -38,7 +38,7 @@ impl Decimal for u64 {
     }
 }
 
-impl Decimal for i32 {
+impl Numeral for i32 {
     ghost value = { λ z. z };
 
     ghost most = { 21 };
@@ -91,7 +91,7 @@ pub fn put_space(out: &mut Output<'_>)
 }
 
 // Numbers, each after one space.
-pub fn put_run<T: Decimal>(out: &mut Output<'_>, numbers: &[T])
+pub fn put_numerals<T: Numeral>(out: &mut Output<'_>, numbers: &[T])
     requires { out.old.at + (T.most + 1) * length numbers.now ≤ length out.old.out.now }
     ensures { Written (spelled (map T.value numbers.now)) ((T.most + 1) * length numbers.now) out.old out.new }
 {
@@ -106,5 +106,5 @@ pub fn put_one(out: &mut Output<'_>, v: i32)
     requires { out.old.at + 22 ≤ length out.old.out.now }
     ensures { Written (spelled (v ∷ [])) 22 out.old out.new }
 {
-    put_run(out, &[v]);
+    put_numerals(out, &[v]);
 }

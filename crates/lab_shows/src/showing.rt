@@ -8,7 +8,7 @@ use crate::Lent;
 use crate::checks::{all_checks, hand_crc};
 use crate::parts::{first_numbers, last_numbers, marks, port_numbers};
 use crate::runs::{put_address, put_words};
-use decimals::put_run;
+use decimals::put_numerals;
 use items::Output;
 use rules::Pod;
 
@@ -17,9 +17,9 @@ fn put_front(out: &mut Output<'_>, pod: &Pod)
     requires { out.old.at + 726 ≤ length out.old.out.now }
     ensures { Written (spelled (front_numbers pod.now)) 726 out.old out.new }
 {
-    put_run(out, &first_numbers(pod));
-    put_run(out, &pod.params.values);
-    put_run(out, &marks(pod.params.written));
+    put_numerals(out, &first_numbers(pod));
+    put_numerals(out, &pod.params.values);
+    put_numerals(out, &marks(pod.params.written));
 }
 
 // .. and those behind.
@@ -27,9 +27,9 @@ fn put_back(out: &mut Output<'_>, pod: &Pod)
     requires { out.old.at + 358 ≤ length out.old.out.now }
     ensures { Written (spelled (back_numbers pod.now)) 358 out.old out.new }
 {
-    put_run(out, &port_numbers(pod));
+    put_numerals(out, &port_numbers(pod));
     put_address(out, pod.words.given);
-    put_run(out, &last_numbers(pod));
+    put_numerals(out, &last_numbers(pod));
 }
 
 // .. and the output half of the pipe, behind the checks ..
@@ -38,7 +38,7 @@ fn put_output(out: &mut Output<'_>, pod: &Pod)
     ensures { Written (shown_output pod.now) 47 out.old out.new }
 {
     let output = pod.pipe.output;
-    put_run(out, &[u64::from(output.hand), u64::from(output.timeouts)]);
+    put_numerals(out, &[u64::from(output.hand), u64::from(output.timeouts)]);
     put_words(out, &[hand_crc(output)]);
 }
 
@@ -47,7 +47,7 @@ fn put_list(out: &mut Output<'_>, pod: &Pod)
     requires { out.old.at + 33 ≤ length out.old.out.now }
     ensures { Written (shown_list pod.now) 33 out.old out.new }
 {
-    put_run(out, &pod.params.missing);
+    put_numerals(out, &pod.params.missing);
     out.append(b"\n");
 }
 

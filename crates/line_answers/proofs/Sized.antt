@@ -90,7 +90,7 @@ unfolding own_of
 within_own t p s l w = by-test (λ (x : Leaves). Within x.sizes) (is_show t) (λ _. w) (λ _. within_set t s w)
 
 -- whatever a text is, no size is over that of the arrays
-within_answered : {p : Program} {t : List ℕ} {b b' : Bench} → TextAnswered p t b b' → Within b.sizes → Within b'.sizes
+pub within_answered : {p : Program} {t : List ℕ} {b b' : Bench} → TextAnswered p t b b' → Within b.sizes → Within b'.sizes
 within_answered {p} {t} {b} {b'} (own e a) w =
     subst (λ (x : Sizes). Within x) (sym a.answered.sizes) (within_own t b.pod b.sizes (shown_in b.memory) w)
 within_answered {p} {t} {b} {b'} (call e a) w = within_after (asking_of p t).asked b.sizes b'.sizes a.sizes w

@@ -7,14 +7,14 @@ use crate::Bench;
 use crate::asking::{asked, next_sizes, own};
 use lab_calls::own_line;
 use line_calls::answer_in;
-use pieces::{Answers, flush_all};
+use pieces::{Gathers, flush_all};
 
 // No line of output has more than 1,200 characters: with fewer left, what is gathered is written first.
 const ENOUGH: usize = 64336;
 
 // A text's call and its answer.
 // `Within` is no invariant of `Sizes`: `size_set` of lab_calls gives a size any number, since `in_range` holds of each, and only the
-// reading of a line bounds it. A text is a slice, so the bound of its length is a clause, here and below, as in `Answers`.
+// reading of a line bounds it. A text is a slice, so the bound of its length is a clause, here and below, as in `Gathers`.
 fn called(text: &[u8], bench: &mut Bench<'_>)
     requires text_len_bound { length text.now ≤ 196606 }
     requires within { Within bench.old.sizes }
@@ -60,7 +60,7 @@ pub fn answered(text: &[u8], bench: &mut Bench<'_>)
 
 // Beside the impl of `aircraft_loop` no plainer as one: `ENOUGH` is of the longest line that a program writes, the bodies are a line
 // each, and what `write` keeps is named by the fields of this state.
-impl<'a> Answers for Bench<'a> {
+impl<'a> Gathers for Bench<'a> {
     ghost answers = { AnswersText };
 
     ghost Fine = { Ready };

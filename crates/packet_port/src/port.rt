@@ -12,7 +12,7 @@ ghost use Rattle.rules.specs.Calls.{roomed, replied, packet_heard, reply_bytes, 
 ghost use Rattle.commands.specs.Does.{restarts};
 ghost use Rattle.packet_port.specs.Port.{lent_by, LentStores, Waits, Answers, sized_call};
 
-use commands::{acknowledged, judge, obey, report, ring_of, shut};
+use commands::{acknowledged, judge, obey_pod, report, ring_of, shut};
 use packets::{Command, Parsed};
 use rules::{Failure, Pod, Refusal, Reply};
 use tables::Tables;
@@ -26,7 +26,7 @@ struct Stores<'a> {
 
 // The bytes of what a command gave; their count.
 // The room is a slice with a clause on its length, here and below: it is lent at any length from 260 on, and `Written` says of all of it
-// what it is afterwards. Pod, tables, room and stores stand by themselves: `shut`, `obey` and `write_reply` take other ones of them, and
+// what it is afterwards. Pod, tables, room and stores stand by themselves: `shut`, `obey_pod` and `write_reply` take other ones of them, and
 // `Answers` names each.
 #[tactic(auto, using(crate::proofs::Answering::ring_sound, crate::proofs::Answering::block_whole, crate::proofs::Answering::stores_in), unfolding(rules::specs::Calls::reply_bytes, rules::specs::Obey::reply_said, rules::specs::Obey::failure_number, rules::specs::Calls::meant_body, packets::specs::Answers::done_answer, packets::specs::Answers::status_answer, packets::specs::Answers::value_answer, packets::specs::Answers::data_answer))]
 fn write_reply(
@@ -78,7 +78,7 @@ fn asked(
     ensures does { (l : Lent) → Answers result pod.new room.new (with_tables (held tables.new) (lent_by stores.entry l)) room.old (replied first (obey_of command (with_tables (held tables.old) (lent_by stores.entry l)) (shut pod.old))) }
 {
     shut(pod);
-    let reply = obey(pod, command);
+    let reply = obey_pod(pod, command);
     restart(command, reply, tables);
     write_reply(pod, reply, first, room, stores)
 }

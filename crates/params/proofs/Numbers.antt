@@ -59,6 +59,10 @@ pub last_low : (l : List ℕ) → low_first (places l 4 4) ≡ from_le_bytes w32
 unfolding low_first
 last_low l = omega (arith, get_or-drop {A = ℕ})
 
+-- eight places by their halves
+pub halves_number : (l : List ℕ) → length l ≡ 8 → low_first (places l 0 4) + 0x1_0000_0000 * low_first (places l 4 4) ≡ low_first l
+halves_number l e = rw (first_low l, last_low l, eight_low l e) (halves l)
+
 -- a number of 64 bits is that of its eight bytes
 pub low_back : (n : ℕ) → n < 2 ^ 64 → low_first (to_le_bytes w64 n) ≡ n
 low_back n h = eight_low (to_le_bytes w64 n) refl ∙ from_le_bytes-to_le_bytes_8 n h
@@ -75,9 +79,7 @@ low_bytes n = simp byte_small
 -- its number, by its halves
 pub right_number : (a b c d e : Bool)
     → low_first (places (list_for (index a b c d e)) 0 4) + 0x1_0000_0000 * low_first (places (list_for (index a b c d e)) 4 4) ≡ low_first (list_for (index a b c d e))
-right_number a b c d e =
-    let l = list_for (index a b c d e) in
-    rw (first_low l, last_low l, eight_low l (ap length (for_marks a b c d e) ∙ by_long a b c d e)) (halves l)
+right_number a b c d e = halves_number (list_for (index a b c d e)) (ap length (for_marks a b c d e) ∙ by_long a b c d e)
 
 -- a number is that of such a list exactly where its own eight bytes are the list
 as_number : (n : ℕ) (m : List ℕ) → n < 2 ^ 64 → to_le_bytes w64 (from_le_bytes w64 m) ≡ m → eqb n (from_le_bytes w64 m) ≡ same_list (to_le_bytes w64 n) m

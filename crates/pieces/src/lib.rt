@@ -1,6 +1,7 @@
 // Input in large pieces, and output written once it is gathered: what a program does between two pieces.
 #![tactic(auto)]
 
+mod plain;
 mod turns;
 
 ghost use Rattle.std.specs.Prelude.{◌≡◌};
@@ -8,8 +9,9 @@ ghost use Rattle.pieces.specs.Desks.{started, Went};
 
 use items::{Output, front};
 use lines::Cursor;
+pub use plain::run;
 use std::io::{Read, Stdin};
-pub use turns::{Answers, gather, run};
+pub use turns::{Answers, Gathers, gather, run_emptied};
 
 // The desk between two pieces: where the next line starts, how much of the piece there is, and how many turns are left, none
 // once the input or the output has ended. A proved loop has to end, and nothing says that input does: so the turns left become

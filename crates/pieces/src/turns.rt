@@ -16,6 +16,32 @@ pub trait Answers {
     ghost Fine: { Self → Type 0 };
     // whether the output has room for any answer
     ghost room: { Self → Bool };
+
+    fn has_room(&self) -> bool
+        ensures { result ≡ room self.now };
+
+    fn answer(&mut self, text: &[u8])
+        requires text_len_bound { length text.now ≤ 196606 }
+        requires fine { Fine self.old }
+        requires has_room { room self.old ≡ true }
+        ensures answers { answers text.now self.old self.new }
+        ensures fine { Fine self.new };
+
+    // Writes what is gathered, and whether that went well.
+    fn write(&mut self) -> bool
+        requires { Fine self.old }
+        ensures fine { Fine self.new }
+        ensures has_room { room self.new ≡ true };
+}
+
+// The same of one that says besides how much it has gathered: nothing, once it is written.
+pub trait Gathers {
+    // a text answered, from one state to the next
+    ghost answers: { List ℕ → Self → Self → Type 0 };
+    // what holds between two texts
+    ghost Fine: { Self → Type 0 };
+    // whether the output has room for any answer
+    ghost room: { Self → Bool };
     // how many characters are gathered
     ghost gathered: { Self → ℕ };
 
@@ -35,6 +61,27 @@ pub trait Answers {
         ensures fine { Fine self.new }
         ensures has_room { room self.new ≡ true }
         ensures written { gathered self.new ≡ 0 };
+}
+
+// Each of these answers lines.
+impl<A: Gathers> Answers for A {
+    ghost answers = { A.answers };
+
+    ghost Fine = { A.Fine };
+
+    ghost room = { A.room };
+
+    fn has_room(&self) -> bool {
+        Gathers::has_room(self)
+    }
+
+    fn answer(&mut self, text: &[u8]) {
+        Gathers::answer(self, text);
+    }
+
+    fn write(&mut self) -> bool {
+        Gathers::write(self)
+    }
 }
 
 // The lines of a piece, one after another, until the piece ends or the output is nearly full: where the next one starts.
@@ -64,7 +111,7 @@ pub fn gather<A: Answers>(
 }
 
 // Answers lines until the input ends or the output fails. Between two pieces, and before the first, nothing is gathered.
-pub fn run<A: Answers>(
+pub fn run_emptied<A: Gathers>(
     piece: &mut [u8; 65536],
     line: &mut [u8; 196606],
     state: &mut A,

@@ -8,5 +8,5 @@ use Rattle.aircraft_answers.proofs.meanings.put_status.Goals as goal
 pub returns : goal.returns
 returns c =
     let s = c.args.shown in
-    let numbers = rw (c.from.ensures, c.from-2.ensures, c.from-3.ensures, c.from-4.ensures, c.from-5.ensures) at c.put_run.ensures in
-    renamed _ 280 (status_text (shown_report s c.args.ids.now) s.request) (omega arith) (both c.append.ensures (both numbers c.put_run-2.ensures))
+    let numbers = rw (c.from.ensures, c.from-2.ensures, c.from-3.ensures, c.from-4.ensures, c.from-5.ensures) at c.put_numerals.ensures in
+    renamed _ 280 (status_text (shown_report s c.args.ids.now) s.request) (omega arith) (both c.append.ensures (both numbers c.put_numerals-2.ensures))

@@ -12,4 +12,4 @@ pub returns : goal.returns
 returns c =
     let a = c.args in
     let back : to_z w32 (of_z w32 a.v) ≡ a.v = search rules in
-    renamed _ 49 (value_text a.id a.v) (omega arith) (both c.append.ensures (both c.put_run.ensures (rw back at c.put_one.ensures)))
+    renamed _ 49 (value_text a.id a.v) (omega arith) (both c.append.ensures (both c.put_numerals.ensures (rw back at c.put_one.ensures)))

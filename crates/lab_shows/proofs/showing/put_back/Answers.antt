@@ -13,5 +13,5 @@ returns c =
     let text : List ℕ → List ℕ = λ l. spelled (naturals l) in
     let n : length c.port_numbers.result ≡ 10 = search rules in
     renamed _ 358 (three-spelled (naturals (port_numbers p)) (address_number p.words.given ∷ []) (naturals (last_numbers p))) (omega arith)
-    (both {m = 210} {n = 148} (renamed _ 210 (ap text c.port_numbers.ensures) (omega arith) c.put_run.ensures)
-    (both {m = 22} {n = 126} c.put_address.ensures (renamed _ 126 (ap text c.last_numbers.ensures) (omega (arith, ap length c.last_numbers.ensures)) c.put_run-2.ensures)))
+    (both {m = 210} {n = 148} (renamed _ 210 (ap text c.port_numbers.ensures) (omega arith) c.put_numerals.ensures)
+    (both {m = 22} {n = 126} c.put_address.ensures (renamed _ 126 (ap text c.last_numbers.ensures) (omega (arith, ap length c.last_numbers.ensures)) c.put_numerals-2.ensures)))

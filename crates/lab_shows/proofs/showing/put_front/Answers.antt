@@ -15,6 +15,6 @@ returns c =
     let n : length c.marks.result ≡ 12 = search rules in
     let m : length p.params.values ≡ 12 = search rules in
     renamed _ 726 (three-spelled (naturals (first_numbers p)) p.params.values (naturals (map bit_of p.params.written))) (omega arith)
-    (both {m = 210} {n = 516} (renamed _ 210 (ap text c.first_numbers.ensures) (omega (arith, ap length c.first_numbers.ensures)) c.put_run.ensures)
-    (both {m = 264} {n = 252} (renamed _ 264 (ap spelled (map-id p.params.values)) (omega arith) c.put_run-2.ensures)
-    (renamed _ 252 (ap text c.marks.ensures) (omega arith) c.put_run-3.ensures)))
+    (both {m = 210} {n = 516} (renamed _ 210 (ap text c.first_numbers.ensures) (omega (arith, ap length c.first_numbers.ensures)) c.put_numerals.ensures)
+    (both {m = 264} {n = 252} (renamed _ 264 (ap spelled (map-id p.params.values)) (omega arith) c.put_numerals-2.ensures)
+    (renamed _ 252 (ap text c.marks.ensures) (omega arith) c.put_numerals-3.ensures)))

@@ -8,4 +8,4 @@ pub returns : goal.returns
 unfolding shown_list
 returns c =
     let n : length c.args.pod.now.params.missing ≡ 8 = search rules in
-    both {m = 32} {n = 1} (renamed _ 32 refl (omega arith) c.put_run.ensures) c.append.ensures
+    both {m = 32} {n = 1} (renamed _ 32 refl (omega arith) c.put_numerals.ensures) c.append.ensures

@@ -3,7 +3,7 @@ use borrow.Author.Rules.{rules}
 use mathlib.Core.Path.{◌∙◌}
 use Rattle.aircraft_lines.specs.Asked.{ask_in}
 use Rattle.aircraft_lines.proofs.Heard.{heard_front}
-use Rattle.aircraft_loop.proofs.turns.BetweenAnswers.answer.Goals as goal
+use Rattle.aircraft_loop.proofs.turns.BetweenGathers.answer.Goals as goal
 
 pub returns-clause-answers : goal.returns-clause-answers
 returns-clause-answers c =

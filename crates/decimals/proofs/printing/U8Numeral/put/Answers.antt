@@ -3,7 +3,7 @@ use Rattle.std.proofs.Common.{arith, ◌≡◌, ap}
 use Rattle.items.specs.Printed.{decimal}
 use Rattle.items.proofs.Behind.{renamed}
 use Rattle.decimals.proofs.Tens.{byte-most}
-use Rattle.decimals.proofs.printing.U8Decimal.put.Goals as goal
+use Rattle.decimals.proofs.printing.U8Numeral.put.Goals as goal
 
 pub put_digits-requires : goal.put_digits-requires
 put_digits-requires c =

@@ -2,7 +2,7 @@
 use Rattle.std.proofs.Common.{arith, length, ap}
 use lib.ListN.{length-take}
 use Rattle.pieces.proofs.Bounds.{went_bounded, no_more}
-use Rattle.pieces.proofs.turns.run.Goals as goal
+use Rattle.pieces.proofs.turns.run_emptied.Goals as goal
 
 pub loop-desk-smaller : goal.loop-desk-smaller
 loop-desk-smaller g c = omega (arith, no_more _ _ _ c.next_piece-desk.ensures)
